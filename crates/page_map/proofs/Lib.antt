@@ -1,0 +1,14 @@
+pub mod Range
+pub mod Entries
+pub mod Steps
+pub mod Unmapped
+pub mod Evaluate
+pub mod Rows
+pub mod Places
+pub mod Histories
+pub mod Weights
+pub mod Keys
+pub mod Above
+pub mod Samples
+pub mod Need
+pub mod Start

@@ -1,0 +1,13 @@
+pub mod Change
+pub mod Cell
+pub mod State
+pub mod Takes
+pub mod Tables
+pub mod Access
+pub mod Mapping
+pub mod Swap
+pub mod Spaces
+pub mod Effect
+pub mod Step
+pub mod History
+pub mod StateCode
