@@ -75,8 +75,8 @@ contents files (File perm file index) = file_page files file index
 contents files (Mapped perm frame bytes) = bytes
 contents files (Swapped perm slot bytes) = bytes
 
--- the bytes of a page after `stored` was written at the address `at`: those below it, those stored in this page, and those above
+-- the bytes of a page after `stored` was written at the address `at`: those below it, those stored that fall into this page, and those above
 abbrev pub written : ℕ → List ℕ → ℕ → List ℕ → List ℕ
 written at stored page bytes =
     let start = 4096 * page in
-    take (at - start) bytes ++ take (start + 4096 - at) (drop (start - at) stored) ++ drop (at + length stored - start) bytes
+    take (at - start) bytes ++ take (4096 - (at - start)) (drop (start - at) stored) ++ drop (at + length stored - start) bytes
