@@ -1,4 +1,5 @@
 pub mod Bytes
+pub mod Body
 pub mod Permissions
 pub mod Pages
 pub mod Outside
