@@ -5,6 +5,7 @@ use Rattle.std.proofs.lemmas.List.{length-take, length-drop, length-append, leng
 use Rattle.std.proofs.Math.Seq.{drop-nil, take-nil}
 use Rattle.corten_base.specs.declared.calls.Backing.{Backing}
 use Rattle.corten_base.specs.declared.calls.Backing.TheVariants as backing
+use Rattle.corten_base.specs.declared.permissions.Perm.{Perm}
 use Rattle.page_map.specs.Cell.{zeros, file_bytes, file_page, contents, written}
 use Rattle.page_map.specs.Mapping.{backed}
 
@@ -21,7 +22,7 @@ length_file_page files file index =
     enough : (n : ℕ) → min 4096 (n + 4096) ≡ 4096
     enough n = omega arith
 
-pub length_backed : (files : List (List ℕ)) (what : Backing) (perm i : ℕ) → length (contents files (backed what perm i)) ≡ 4096
+pub length_backed : (files : List (List ℕ)) (what : Backing) (perm : Perm) (i : ℕ) → length (contents files (backed what perm i)) ≡ 4096
 length_backed files backing.Zero perm i = length_zeros
 length_backed files (backing.File file index) perm i = length_file_page files file (index + i)
 
