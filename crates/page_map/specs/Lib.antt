@@ -11,3 +11,4 @@ pub mod Effect
 pub mod Step
 pub mod History
 pub mod StateCode
+pub mod Memory
