@@ -12,3 +12,4 @@ pub mod Step
 pub mod History
 pub mod StateCode
 pub mod Memory
+pub mod Worked

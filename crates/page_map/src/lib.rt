@@ -5,6 +5,7 @@ mod cell;
 mod history_laws;
 mod laws;
 mod memory_laws;
+mod worked_scripts;
 
 pub use cell::Cell;
 pub use history_laws::{
@@ -20,3 +21,4 @@ pub use memory_laws::{
     a_store_puts_its_bytes, other_bytes_stay, what_is_fresh_is_loaded_as_zeros,
     what_is_stored_is_loaded,
 };
+pub use worked_scripts::{first_run_is_a_history, no_calls_is_a_history};
