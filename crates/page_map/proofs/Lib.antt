@@ -29,6 +29,7 @@ pub mod Named
 pub mod Memory
 pub mod Bytewise
 pub mod Gaps
+pub mod Few
 pub mod Recalled
 pub mod Written
 pub mod Replies

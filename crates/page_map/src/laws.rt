@@ -10,7 +10,7 @@ ghost use Rattle.corten_base.specs.declared.calls.Reply.TheVariants as reply;
 ghost use Rattle.table_place.specs.declared.Place.{Place};
 ghost use Rattle.table_place.specs.Range.{within, lies_in};
 ghost use Rattle.table_place.specs.Place.{pages_of};
-ghost use Rattle.page_map.specs.State.{State, IsConsistent, start, linked, space_at, cell_at};
+ghost use Rattle.page_map.specs.State.{State, IsConsistent, start, linked, space_at, cell_at, frame_owners, slot_owners};
 ghost use Rattle.page_map.specs.Tables.{need};
 ghost use Rattle.page_map.specs.Mapping.{arena_first, is_free};
 ghost use Rattle.page_map.specs.Effect.{state_after, wanted_tables, is_given_up};
@@ -61,6 +61,12 @@ pub fn a_mapping_goes_to_the_least_gap()
     ensures least { (st : State) (thread limbo space len first lower : ℕ) (perm : Perm) (what : Backing)
         → (step st thread (call.Map space place.Any len perm what) limbo).0 ≡ reply.At (4096 * first)
         → arena_first thread ≤ lower → lower < first → is_free (space_at st space) lower (pages_of len) ≡ false }
+{}
+
+/// A frame has at most one owner in each of the 64 spaces, and so has a swap slot.
+pub fn a_number_has_at_most_64_owners()
+    ensures frames { (st : State) (n : ℕ) → IsConsistent st → frame_owners st n ≤ 64 }
+    ensures slots { (st : State) (n : ℕ) → IsConsistent st → slot_owners st n ≤ 64 }
 {}
 
 /// A call that removes no page table adds as many as it needs.
