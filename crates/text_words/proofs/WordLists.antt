@@ -2,6 +2,7 @@
 use Rattle.std.proofs.Common.{◌≡◌, ◌≢◌, ℕ, Bool, true, false, eqb, List, [], ◌∷◌, ◌++◌, refl, sym, ap, ◌∙◌, length, IsTrue, ne_eqb, arith}
 use Rattle.std.specs.Prelude.{if◌then◌else◌}
 use Rattle.std.specs.List.{All}
+use Rattle.std.proofs.lemmas.List.{append-nil, append_assoc}
 use Rattle.std.proofs.lemmas.List.Elements.{All-head, All-tail, All-weaker}
 use Rattle.std.proofs.lemmas.List.Splits.{slice_split_none, slice_split_at, length-slice_split, join_with_byte-slice_split}
 use Rattle.text_words.specs.Layout.{IsWord, joined, words_of}
@@ -45,3 +46,23 @@ none_left false rest words is = (λ h. cc, λ none. absurd (words_of_some rest (
 pub left_not_done : (done : Bool) (rest : List ℕ) → done ≡ false → left done rest ≡ words_of rest
 left_not_done true rest h = absurd (cc)
 left_not_done false rest h = refl
+
+-- one more word behind others
+pub joined_push : (words : List (List ℕ)) (word : List ℕ) → words ≢ [] → joined (words ++ word ∷ []) ≡ joined words ++ 32 ∷ word
+joined_push [] word some = absurd (some refl)
+joined_push (first ∷ []) word some = refl
+joined_push (first ∷ next ∷ words) word some =
+    ap (λ cs. first ++ 32 ∷ cs) (joined_push (next ∷ words) word (λ e. cc))
+    ∙ sym (append_assoc first (32 ∷ joined (next ∷ words)) (32 ∷ word))
+
+-- one more word is printed, behind a space unless it is the first
+pub printed_first : (front out word : List ℕ) (words : List (List ℕ)) → words ≡ [] → out ≡ front ++ joined words → out ++ word ≡ front ++ joined (words ++ word ∷ [])
+printed_first front out word [] none so_far = ap (λ cs. cs ++ word) (so_far ∙ append-nil front)
+printed_first front out word (w ∷ words) none so_far = absurd (cc)
+
+pub printed_next : (front out word : List ℕ) (words : List (List ℕ)) → words ≢ [] → out ≡ front ++ joined words → (out ++ 32 ∷ []) ++ word ≡ front ++ joined (words ++ word ∷ [])
+printed_next front out word words some so_far =
+    append_assoc out (32 ∷ []) word
+    ∙ ap (λ cs. cs ++ 32 ∷ word) so_far
+    ∙ append_assoc front (joined words) (32 ∷ word)
+    ∙ ap (λ cs. front ++ cs) (sym (joined_push words word some))

@@ -30,6 +30,7 @@ fn byte_of(high: u8, low: u8) -> Option<u8>
 /// Reads bytes, whose digits are the whole word.
 pub fn read_hex(alloc: Global, word: &[u8]) -> Result<Option<Vec<u8>>, AllocError>
     ensures found { IfOk result (λ read. IfSome read (λ bytes. word.now ≡ hex bytes.items)) }
+    ensures fit { IfOk result (λ read. IfSome read (λ bytes. All (λ b. b < 256) bytes.items)) }
     ensures none { IfOk result (λ read.
         IfNone read ((bytes : List ℕ) → All (λ b. b < 256) bytes → word.now ≢ hex bytes)) }
 {

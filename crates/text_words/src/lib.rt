@@ -10,6 +10,7 @@ mod laws;
 mod lines;
 mod number;
 mod perm;
+mod printing;
 mod words;
 
 pub use address::{push_address, read_address};
@@ -22,6 +23,7 @@ pub use laws::{
 pub use lines::Lines;
 pub use number::{push_number, read_number};
 pub use perm::{push_perm, read_perm};
+pub use printing::{Word, push_words};
 pub use words::Words;
 
 #[cfg(test)]

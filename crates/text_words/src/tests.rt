@@ -62,6 +62,21 @@ fn permissions_have_three_characters(rt: HostRuntime) -> Result<(), Fail> {
 }
 
 #[test]
+fn words_have_one_space_between_them(rt: HostRuntime) -> Result<(), Fail> {
+    let mut out = Vec::new(rt.alloc());
+    let words = [
+        Word::Plain(b"store"),
+        Word::Number(0),
+        Word::Address(16),
+        Word::Hex(b"hi"),
+        Word::Permission(Perm::R),
+    ];
+    push_words(&mut out, &words)?;
+    assert_eq!(rt; out.as_slice(), b"store 0 0x10 6869 r--".as_slice());
+    Ok(())
+}
+
+#[test]
 fn two_spaces_have_an_empty_word_between_them(rt: HostRuntime) {
     let mut words = Words::of(b"load  0");
     assert_eq!(rt; words.next_word().map(|word| word.len()), Some(4));
