@@ -1,3 +1,5 @@
 pub mod Bytes
 pub mod Permissions
 pub mod Pages
+pub mod Outside
+pub mod Memory
