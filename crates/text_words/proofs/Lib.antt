@@ -1,0 +1,2 @@
+pub mod HexPairs
+pub mod Numerals
