@@ -227,7 +227,7 @@ HasRead-more base word i n d small h inside fits is =
       value = rw values (number_push base (values_of (take i word)) d ∙ ap (λ x. x * base + d) h.value);
     }
 
-below_power : (base n : ℕ) → 2 ≤ base → n < 2 ^ 64 → n < base ^ 64
+pub below_power : (base n : ℕ) → 2 ≤ base → n < 2 ^ 64 → n < base ^ 64
 below_power base n two fits = omega (arith, pow-le-pow_left {n = 2} {m = base} two 64)
 
 glyph_at : (values : List ℕ) (i : ℕ) → i < length values → get_or (written values) i 0 ≡ digit_glyph false (get_or values i 0)
@@ -258,7 +258,10 @@ pub record IsSpelled (base : ℕ) (word : List ℕ) (n : ℕ) : Type 0 where
   pub digit : (i : ℕ) → i < length word → (d : ℕ) × (d < base) × (get_or word i 0 ≡ digit_glyph false d)
   pub bound : (i m d : ℕ) → i < length word → HasRead base word i m → d < 16 → get_or word i 0 ≡ digit_glyph false d → m * base + d ≤ n
 
-values_of-written : (values : List ℕ) → All (λ d. d < 16) values → values_of (written values) ≡ values
+pub weaker_base : (base : ℕ) (ds : List ℕ) → base ≤ 16 → All (λ d. d < base) ds → All (λ d. d < 16) ds
+weaker_base base ds small h = λ k d inside. let at : get_or ds k d < base = h k d inside in omega arith
+
+pub values_of-written : (values : List ℕ) → All (λ d. d < 16) values → values_of (written values) ≡ values
 values_of-written [] h = refl
 values_of-written (d ∷ values) h =
     ap (λ x. x ∷ values_of (written values)) (value_of-digit_glyph d (All-head (λ x. x < 16) d values h))

@@ -2,8 +2,10 @@
 --     number        a number in decimal digits, without a leading zero
 --     address       `0x` and a number in lower-case hexadecimal digits, without a leading zero
 --     hex           two lower-case hexadecimal digits for each byte
-use Rattle.std.specs.Prelude.{ℕ, ◌/◌, ◌%◌, false, List, [], ◌∷◌, ◌++◌, codes}
+--     permission    three characters, `r` or `-`, `w` or `-` and `x` or `-`
+use Rattle.std.specs.Prelude.{ℕ, ◌/◌, ◌%◌, false, List, [], ◌∷◌, ◌++◌, codes, if◌then◌else◌}
 use Rattle.std.specs.Fmt.{digits, digit_glyph}
+use Rattle.corten_base.specs.declared.permissions.Perm.{Perm}
 
 -- what Rust's `{}` writes: `0` is the only number whose first digit is 0
 abbrev pub number : ℕ → List ℕ
@@ -17,3 +19,8 @@ address n = codes "0x" ++ digits 16 false n
 unfoldable pub hex : List ℕ → List ℕ
 hex [] = []
 hex (byte ∷ bytes) = digit_glyph false (byte / 16) ∷ digit_glyph false (byte % 16) ∷ hex bytes
+
+-- 114, 119 and 120 are the letters, and 45 is `-`
+abbrev pub permission : Perm → List ℕ
+permission perm =
+    (if perm.read then 114 else 45) ∷ (if perm.write then 119 else 45) ∷ (if perm.exec then 120 else 45) ∷ []
