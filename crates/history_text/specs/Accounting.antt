@@ -13,12 +13,14 @@ limit_lines limits = (codes "frames " ++ number limits.frames) ∷ (codes "table
 abbrev pub header_lines : Limits → List (List ℕ)
 header_lines limits = codes "corten 1" ∷ limit_lines limits
 
--- a word and a number, another word and a number, and a third of each
-abbrev pub account_line : List ℕ → ℕ → List ℕ → ℕ → List ℕ → ℕ → List ℕ
-account_line a x b y c z = a ++ number x ++ b ++ number y ++ c ++ number z
+abbrev pub frames_line : Accounts → List ℕ
+frames_line a = codes "frames " ++ number a.frames ++ codes " free " ++ number a.frames_free ++ codes " mapped " ++ number a.frames_mapped
+
+abbrev pub swap_line : Accounts → List ℕ
+swap_line a = codes "swap " ++ number a.swap ++ codes " free " ++ number a.swap_free ++ codes " used " ++ number a.swap_used
+
+abbrev pub tables_line : Accounts → List ℕ
+tables_line a = codes "tables " ++ number a.tables ++ codes " linked " ++ number a.linked ++ codes " limbo " ++ number a.limbo
 
 abbrev pub account_lines : Accounts → List (List ℕ)
-account_lines a =
-    account_line (codes "frames ") a.frames (codes " free ") a.frames_free (codes " mapped ") a.frames_mapped
-    ∷ (account_line (codes "swap ") a.swap (codes " free ") a.swap_free (codes " used ") a.swap_used
-    ∷ (account_line (codes "tables ") a.tables (codes " linked ") a.linked (codes " limbo ") a.limbo ∷ []))
+account_lines a = frames_line a ∷ swap_line a ∷ tables_line a ∷ []

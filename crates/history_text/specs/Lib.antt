@@ -1,2 +1,4 @@
 pub mod Replies
 pub mod Accounting
+pub mod Writing
+pub mod Outcomes
