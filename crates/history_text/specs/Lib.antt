@@ -2,3 +2,4 @@ pub mod Replies
 pub mod Accounting
 pub mod Writing
 pub mod Outcomes
+pub mod HistoryText
