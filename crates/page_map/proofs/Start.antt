@@ -1,5 +1,5 @@
 -- The start state is consistent.
-use Rattle.std.proofs.Common.{◌≡◌, ℕ, ◌+◌, ◌≤◌, Bool, true, false, cond, List, refl, sym, ap, subst, ◌∙◌, arith}
+use Rattle.std.proofs.Common.{◌≡◌, ℕ, ◌+◌, ◌<◌, ◌≤◌, Bool, true, false, cond, List, refl, sym, ap, subst, ◌∙◌, arith}
 use mathlib.Core.Bool.{true≢false}
 use Rattle.std.specs.Prelude.{Option, Some, None, is_some, nat_eq, ◌||◌}
 use Rattle.std.specs.Option.{unwrap_or}
@@ -13,7 +13,7 @@ use Rattle.std.proofs.lemmas.Bool.{eqb-true}
 use Rattle.corten_base.specs.declared.numbers.Limits.{Limits}
 use Rattle.page_map.specs.declared.cell.Cell.{Cell}
 use Rattle.table_place.specs.declared.Place.{Place}
-use Rattle.table_place.specs.Place.{place_cmp, root}
+use Rattle.table_place.specs.Place.{place_cmp, root, is_place}
 use Rattle.page_map.specs.State.{AddressSpace, start, cell_at, is_present, linked, IsConsistent}
 use Rattle.page_map.proofs.Places.{place_total, place_exact}
 use Rattle.page_map.proofs.Steps.{not_none}
@@ -65,6 +65,9 @@ fits : (limits : Limits) (files : List (List ℕ)) → 1 ≤ limits.tables → l
 unfolding start
 fits limits files room = omega (arith, one_linked limits files, room)
 
+top : {k : ℕ} → k ≡ 4 → k < 4 → ⊥
+top e h = omega arith
+
 pub start_is_consistent : (limits : Limits) (files : List (List ℕ)) → 1 ≤ limits.tables → IsConsistent (start limits files)
 start_is_consistent limits files room =
     let none : (s p : ℕ) (c : Cell) → cell_at (start limits files) s p ≡ Some c → ⊥ = λ s p c e. not_none (sym e ∙ no_cell limits files s p) in
@@ -74,6 +77,8 @@ start_is_consistent limits files room =
       bytes = λ s p c e. absurd (none s p c e);
       roots = λ s h. subst (λ n. set.contains (start limits files).tables (root 4 n) ≡ true) (sym (only_present limits files s h)) (has_root limits files);
       above = λ s p k c e _ _. absurd (none s p c e);
+      parents = λ p h below. absurd (top (ap (λ (q : Place). q.level) (only_table limits files p h)) below);
+      places = λ p h. subst (λ (q : Place). is_place 4 q ≡ true) (sym (only_table limits files p h)) refl;
       absent = λ p h. subst (λ (q : Place). is_present (start limits files) q.space ≡ true) (sym (only_table limits files p h)) (has_space limits files);
       tables = fits limits files room;
       frames = λ s p n c e _. absurd (none s p c e);

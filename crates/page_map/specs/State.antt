@@ -1,5 +1,6 @@
 -- The state of the plain machine, in one form: equal states are `≡`.
 --     State, start      the state;  the state in which nothing is mapped
+--     IsWithinLimits      the numbers of frames, tables and slots that a machine may have
 --     space_at, cell_at, is_present      a space's map;  a page's cell;  whether a space is there
 --     frame_owners, slot_owners      how many keys carry a number
 --     unused_frames, unused_slots      the numbers that no key carries, in ascending order
@@ -18,7 +19,7 @@ use Rattle.corten_base.specs.declared.numbers.Accounts.{Accounts}
 use Rattle.page_map.specs.declared.cell.Cell.{Cell}
 use Rattle.table_place.specs.declared.Place.{Place}
 use Rattle.page_map.specs.Cell.{frame_of, slot_of, contents}
-use Rattle.table_place.specs.Place.{place_cmp, root, place_of, is_user_page}
+use Rattle.table_place.specs.Place.{place_cmp, root, place_of, parent, is_place, is_user_page}
 
 -- the cells of one space, by page: no cell stands where the page is Invalid
 abbrev pub AddressSpace : Type 0
@@ -29,6 +30,14 @@ pub record State : Type 0 where
   pub tables : FinSet place_cmp
   pub limits : Limits
   pub files : List (List ℕ)
+
+-- the numbers of frames, page tables and swap slots that a machine may have
+pub record IsWithinLimits (limits : Limits) : Type 0 where
+  pub some_frame : 1 ≤ limits.frames
+  pub frames : limits.frames ≤ 4096
+  pub some_table : 1 ≤ limits.tables
+  pub tables : limits.tables ≤ 1023
+  pub swap : limits.swap ≤ 4096
 
 -- the number of levels of the page tables
 abbrev pub levels_of : Limits → ℕ
@@ -104,13 +113,16 @@ abbrev pub SharersAgree : (Cell → Option ℕ) → State → Type 0
 SharersAgree number_of st = (s t p q : ℕ) (c d : Cell) (n : ℕ) → cell_at st s p ≡ Some c → cell_at st t q ≡ Some d →
     number_of c ≡ Some n → number_of d ≡ Some n → (contents st.files c ≡ contents st.files d) × (s ≡ t → p ≡ q)
 
+-- What holds of every state that steps reach: `roots`, `above` and `parents` say which tables there are, `absent` and `places` which there are not.
 pub record IsConsistent (st : State) : Type 0 where
   pub spaces : (s : ℕ) → is_present st s ≡ true → s < 64
   pub pages : (s p : ℕ) (c : Cell) → cell_at st s p ≡ Some c → is_user_page (levels st) p ≡ true
   pub bytes : (s p : ℕ) (c : Cell) → cell_at st s p ≡ Some c → length (contents st.files c) ≡ 4096
   pub roots : (s : ℕ) → is_present st s ≡ true → set.contains st.tables (root (levels st) s) ≡ true
   pub above : (s p k : ℕ) (c : Cell) → cell_at st s p ≡ Some c → 1 ≤ k → k ≤ levels st → set.contains st.tables (place_of s k p) ≡ true
+  pub parents : (p : Place) → set.contains st.tables p ≡ true → p.level < levels st → set.contains st.tables (parent p) ≡ true
   pub absent : (p : Place) → set.contains st.tables p ≡ true → is_present st p.space ≡ true
+  pub places : (p : Place) → set.contains st.tables p ≡ true → is_place (levels st) p ≡ true
   pub tables : linked st ≤ st.limits.tables
   pub frames : (s p n : ℕ) (c : Cell) → cell_at st s p ≡ Some c → frame_of c ≡ Some n → n < st.limits.frames
   pub slots : (s p n : ℕ) (c : Cell) → cell_at st s p ≡ Some c → slot_of c ≡ Some n → n < st.limits.swap
