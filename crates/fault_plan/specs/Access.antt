@@ -2,30 +2,31 @@
 --     Allows, Lacks      whether the page's permissions allow the access, or lack what it needs
 --     IsAnon, IsFile, IsMapped, IsSwapped      what stands at the page
 --     Rule      the rule's table: when each decision is the right one
-use Rattle.std.specs.Prelude.{◌≡◌, ℕ, ◌≤◌, Bool, true, false, not, cond, IsTrue}
+use Rattle.std.specs.Prelude.{◌≡◌, ℕ, ◌≤◌, Bool, true, false, cond}
 use Rattle.page_map.specs.Cell.{can_read, can_write}
+use Rattle.corten_base.specs.declared.permissions.Perm.{Perm}
 use Rattle.corten_base.specs.declared.numbers.Status.{Status}
 use Rattle.corten_base.specs.declared.numbers.Status.TheVariants.{Invalid, Anon, File, Mapped, Swapped}
-use Rattle.fault_plan.specs.declared.decide.Decision.{Decision}
-use Rattle.fault_plan.specs.declared.decide.Decision.TheVariants.{Ready, ZeroFill, FromFile, CopyOut, TakeOver, SwapIn, Segv, Denied, Bus}
+use Rattle.fault_plan.specs.declared.rule.Decision.{Decision}
+use Rattle.fault_plan.specs.declared.rule.Decision.TheVariants.{Ready, ZeroFill, FromFile, CopyOut, TakeOver, SwapIn, Segv, Denied, Bus}
 
 -- a write needs the write permission, a read needs the read permission
-abbrev pub permits : Bool → ℕ → Bool
+abbrev pub permits : Bool → Perm → Bool
 permits write perm = cond write (can_write perm) (can_read perm)
 
 abbrev pub Allows : Bool → Status → Type 0
 Allows write Invalid = ⊥
-Allows write (Anon perm) = IsTrue (permits write perm)
-Allows write (File perm file index) = IsTrue (permits write perm)
-Allows write (Mapped perm frame) = IsTrue (permits write perm)
-Allows write (Swapped perm slot) = IsTrue (permits write perm)
+Allows write (Anon perm) = permits write perm ≡ true
+Allows write (File perm file index) = permits write perm ≡ true
+Allows write (Mapped perm frame) = permits write perm ≡ true
+Allows write (Swapped perm slot) = permits write perm ≡ true
 
 abbrev pub Lacks : Bool → Status → Type 0
 Lacks write Invalid = ⊥
-Lacks write (Anon perm) = IsTrue (not (permits write perm))
-Lacks write (File perm file index) = IsTrue (not (permits write perm))
-Lacks write (Mapped perm frame) = IsTrue (not (permits write perm))
-Lacks write (Swapped perm slot) = IsTrue (not (permits write perm))
+Lacks write (Anon perm) = permits write perm ≡ false
+Lacks write (File perm file index) = permits write perm ≡ false
+Lacks write (Mapped perm frame) = permits write perm ≡ false
+Lacks write (Swapped perm slot) = permits write perm ≡ false
 
 abbrev pub IsInvalid : Status → Type 0
 IsInvalid Invalid = Unit {0}

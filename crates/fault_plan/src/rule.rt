@@ -1,7 +1,7 @@
 //! The decision of an access.
 ghost use Rattle.std.specs.Prelude.{◌≡◌, ℕ, ◌≤◌, ◌↔◌};
 ghost use Rattle.fault_plan.specs.Access.{Rule, IsMapped, permits};
-ghost use Rattle.fault_plan.specs.declared.decide.Decision.{Decision};
+ghost use Rattle.fault_plan.specs.declared.rule.Decision.{Decision};
 
 use corten_base::{Perm, Status};
 
@@ -32,11 +32,7 @@ pub enum Decision {
 fn permits(perm: &Perm, write: bool) -> bool
     ensures { result ≡ permits write perm.now }
 {
-    if write {
-        perm.can_write()
-    } else {
-        perm.can_read()
-    }
+    if write { perm.write } else { perm.read }
 }
 
 /// The decision for an access to a page: what stands there (`cell`), whether it writes, how many keys carry the
@@ -48,11 +44,11 @@ pub fn decide(cell: &Status, write: bool, count: u32, past_end: bool) -> Decisio
 {
     match cell {
         Status::Invalid => Decision::Segv,
-        Status::Anon(perm) | Status::File { perm, .. } | Status::Mapped { perm, .. } | Status::Swapped { perm, .. }
-            if !permits(perm, write) =>
-        {
-            Decision::Denied
-        }
+        Status::Anon(perm)
+        | Status::File { perm, .. }
+        | Status::Mapped { perm, .. }
+        | Status::Swapped { perm, .. }
+            if !permits(perm, write) => { Decision::Denied }
         Status::Anon(_) => Decision::ZeroFill,
         Status::File { .. } if past_end => Decision::Bus,
         Status::File { .. } => Decision::FromFile,
@@ -60,5 +56,40 @@ pub fn decide(cell: &Status, write: bool, count: u32, past_end: bool) -> Decisio
         Status::Mapped { .. } if count == 1 => Decision::TakeOver,
         Status::Mapped { .. } => Decision::CopyOut,
         Status::Swapped { .. } => Decision::SwapIn,
+    }
+}
+
+#[cfg(test)]
+mod tests {
+    use super::*;
+    use bitflags::Flags;
+
+    #[test]
+    fn decides_by_the_cell(rt: HostRuntime) {
+        let rw = Perm::from_bits_retain(3);
+        let read = Perm::R;
+        let mapped = Status::Mapped { perm: rw, frame: 0 };
+        let file = Status::File {
+            perm: read,
+            file: 0,
+            index: 1,
+        };
+        let slot = Status::Swapped { perm: rw, slot: 0 };
+        assert_eq!(rt; decide(&Status::Invalid, false, 0, false), Decision::Segv);
+        assert_eq!(rt;
+            decide(&Status::Anon(read), true, 0, false),
+            Decision::Denied
+        );
+        assert_eq!(rt;
+            decide(&Status::Anon(read), false, 0, false),
+            Decision::ZeroFill
+        );
+        assert_eq!(rt; decide(&file, true, 0, true), Decision::Denied);
+        assert_eq!(rt; decide(&file, false, 0, true), Decision::Bus);
+        assert_eq!(rt; decide(&file, false, 0, false), Decision::FromFile);
+        assert_eq!(rt; decide(&mapped, false, 2, false), Decision::Ready);
+        assert_eq!(rt; decide(&mapped, true, 1, false), Decision::TakeOver);
+        assert_eq!(rt; decide(&mapped, true, 2, false), Decision::CopyOut);
+        assert_eq!(rt; decide(&slot, false, 0, false), Decision::SwapIn);
     }
 }
