@@ -1,0 +1,2 @@
+pub mod CallForms
+pub mod OneCall
