@@ -109,7 +109,7 @@ backing_words_have_no byte (backing.File file index) low h = absurd h
 space_word_has_no : (byte space : ℕ) → byte < 45 → IsSpace space → HasNo byte (number space)
 space_word_has_no byte space low h = HasNo-number byte space (omega arith) (IsNoDigit-below byte (omega arith))
 
-length_word_has_no : (byte len : ℕ) → byte < 45 → len < 2 ^ 64 → HasNo byte (number len)
+pub length_word_has_no : (byte len : ℕ) → byte < 45 → len < 2 ^ 64 → HasNo byte (number len)
 length_word_has_no byte len low h = HasNo-number byte len h (IsNoDigit-below byte (omega arith))
 
 address_word_has_no : (byte at : ℕ) → byte < 45 → at < 2 ^ 64 → HasNo byte (address at)
