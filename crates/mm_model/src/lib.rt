@@ -1,8 +1,10 @@
 //! The plain machine: for each space a finite map from pages to cells.
 #![tactic(auto)]
 
+mod owners;
 mod plain;
 mod space;
+mod spaces;
+mod tables;
 
 pub use plain::Plain;
-pub use space::AddressSpace;

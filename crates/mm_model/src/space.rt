@@ -5,8 +5,8 @@ ghost use Rattle.std.specs.BTreeMap as tree;
 ghost use Rattle.page_map.specs.Change.{change};
 ghost use Rattle.page_map.specs.declared.cell.Cell.TheVariants.{Anon};
 
-use page_map::Cell;
 use corten_base::Perm;
+use page_map::Cell;
 use std::alloc::AllocError;
 use std::collections::BTreeMap;
 use std::marker::Model;

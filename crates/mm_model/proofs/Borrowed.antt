@@ -1,0 +1,10 @@
+-- A fact on a borrowed value.
+use Rattle.std.proofs.Common.{◌≡◌, refl, subst}
+use Rattle.std.specs.Prelude.{Option, Some, None, IsSome}
+use Rattle.std.specs.Option.{OnSome, option_copied_mut}
+use Rattle.std.specs.Borrow.{MutBor}
+
+-- a fact that holds where a value is there holds at a borrow of it
+pub on_some : {A P : Type 0} (r : Option (MutBor A)) (o : Option A) → option_copied_mut r ≡ o → (IsSome o → P) → OnSome r P
+on_some None o e h = tt
+on_some (Some x) o e h = h (subst (λ q. IsSome q) e refl)
