@@ -1,18 +1,9 @@
 -- What a plain machine keeps.
---     IsWithinLimits      limits that the machine can be made with
 --     owner_counts      for each number below a limit, how many keys carry it
 --     IsSound      the facts that hold of the state, and what the counts of owners say of it
-use Rattle.std.specs.Prelude.{◌≡◌, ℕ, ◌≤◌, List, map}
+use Rattle.std.specs.Prelude.{◌≡◌, ℕ, List, map}
 use Rattle.std.specs.List.{range_with_len}
-use Rattle.corten_base.specs.declared.numbers.Limits.{Limits}
-use Rattle.page_map.specs.State.{State, IsConsistent, frame_owners, slot_owners}
-
-pub record IsWithinLimits (limits : Limits) : Type 0 where
-  pub some_frame : 1 ≤ limits.frames
-  pub frames : limits.frames ≤ 4096
-  pub some_table : 1 ≤ limits.tables
-  pub tables : limits.tables ≤ 1023
-  pub swap : limits.swap ≤ 4096
+use Rattle.page_map.specs.State.{State, IsConsistent, IsWithinLimits, frame_owners, slot_owners}
 
 -- how many keys carry each of the numbers below the limit
 abbrev pub owner_counts : (ℕ → ℕ) → ℕ → List ℕ
