@@ -1,2 +1,4 @@
 pub mod Borrowed
 pub mod Sets
+pub mod Bits
+pub mod Tally
