@@ -2,3 +2,4 @@ pub mod Borrowed
 pub mod Sets
 pub mod Bits
 pub mod Tally
+pub mod Reach

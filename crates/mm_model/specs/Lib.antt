@@ -1,3 +1,5 @@
 pub mod Plain
 pub mod Lending
 pub mod Owners
+pub mod Reach
+pub mod Wants

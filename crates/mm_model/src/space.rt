@@ -1,7 +1,11 @@
 //! The cells of one space, by page.
 ghost use Rattle.std.specs.Prelude.{◌≡◌, ℕ, ◌+◌, ◌<◌, ◌≤◌, ◌^◌, Some, None, IfSome, IfNone, IsSome, OnOk};
 ghost use Rattle.std.specs.Ordering.{nat_cmp};
+ghost use Rattle.std.specs.Option.{option_copied, option_copied_mut};
+ghost use Rattle.std.specs.Borrow.{sem};
 ghost use Rattle.std.specs.BTreeMap as tree;
+ghost use Rattle.std.specs.FinMap as map;
+ghost use Rattle.mm_model.specs.Lending.{LendsCell};
 ghost use Rattle.page_map.specs.Change.{change};
 ghost use Rattle.page_map.specs.declared.cell.Cell.TheVariants.{Anon};
 
@@ -63,5 +67,20 @@ impl AddressSpace {
         while let Some(page) = next_page(&self.cells, first, end) {
             self.cells.remove(&page);
         }
+    }
+
+    /// What stands at a page.
+    pub fn get(&self, page: u64) -> Option<&Cell>
+        ensures { option_copied result ≡ map.get self.now page }
+    {
+        self.cells.get(&page)
+    }
+
+    /// What stands at a page, to be changed.
+    pub fn get_mut(&mut self, page: u64) -> Option<&mut Cell>
+        ensures* writes_back { sem 𝓛 (LendsCell self.entry page result) }
+        ensures value { option_copied_mut result ≡ map.get self.old page }
+    {
+        self.cells.get_mut(&page)
     }
 }

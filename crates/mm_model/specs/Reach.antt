@@ -1,0 +1,68 @@
+-- Accesses to the cells of one space, beside the counts of owners of the frames and the swap slots.
+--     reaching, storing      an access that stores nothing;  one that stores bytes
+--     last_page, IsUserAccess      its last page;  whether it has 1 to 4,096 bytes, in user pages alone
+--     wants, wanting      whether a page wants a frame, by the counts of owners;  the pages of an access that do
+--     lack, refused_in      too few unused frames;  the reply of the first that refuses: the pages in ascending order, then the unused frames
+--     given, overwritten      a page on the frame that it got;  a page after bytes were written at a place in it
+--     carried, Follows      how many cells carry a number;  counts that have changed as cells have
+use Rattle.std.specs.Prelude.{◌≡◌, ℕ, ◌+◌, ◌-◌, ◌/◌, ◌^◌, ◌<◌, ◌≤◌, Bool, true, false, cond, not, ◌&&◌, List, [], length, slice_index, nat_eq, nat_lt, Option, Some, None}
+use Rattle.std.specs.Option.{unwrap_or, option_or}
+use Rattle.std.specs.List.{count_by}
+use Rattle.std.specs.FinMap as map
+use Rattle.corten_base.specs.declared.calls.Reply.{Reply}
+use Rattle.corten_base.specs.declared.calls.Reply.TheVariants as reply
+use Rattle.corten_base.specs.Bytes.{bytes_after_write}
+use Rattle.page_map.specs.declared.cell.Cell.{Cell}
+use Rattle.page_map.specs.declared.cell.Cell.TheVariants.{Anon, File, Mapped, Swapped}
+use Rattle.page_map.specs.Change.{keys_in}
+use Rattle.page_map.specs.Cell.{perm_of, frame_of, contents}
+use Rattle.page_map.specs.State.{AddressSpace, carries}
+use Rattle.page_map.specs.Access.{Access, first_page, page_count, refused_access}
+use Rattle.mm_model.specs.Owners.{unused_of}
+
+abbrev pub reaching : ℕ → ℕ → Bool → Access
+reaching at len write = record { at = at; len = len; write = write; stored = [] }
+
+abbrev pub storing : ℕ → List ℕ → Access
+storing at bytes = record { at = at; len = length bytes; write = true; stored = bytes }
+
+abbrev pub last_page : Access → ℕ
+last_page a = (a.at + a.len - 1) / 4096
+
+pub record IsUserAccess (a : Access) : Type 0 where
+  pub some : 0 < a.len
+  pub few : a.len ≤ 4096
+  pub low : 16 ≤ first_page a
+  pub high : last_page a + 1 < 2 ^ 35
+
+abbrev pub wants : (ℕ → ℕ) → Bool → Cell → Bool
+wants owners write (Mapped perm frame bytes) = write && not (nat_eq (owners frame) 1)
+wants owners write (Anon perm) = true
+wants owners write (File perm file index) = true
+wants owners write (Swapped perm slot bytes) = true
+
+abbrev pub wanting : (ℕ → ℕ) → AddressSpace → Access → List ℕ
+wanting owners cells a = keys_in cells (first_page a) (page_count a) (wants owners a.write)
+
+abbrev pub lack : ℕ → ℕ → Option Reply
+lack free need = cond (nat_lt free need) (Some (reply.NoFrames free need)) None
+
+abbrev pub refused_in : List (List ℕ) → AddressSpace → List ℕ → Access → Option Reply
+refused_in files cells frames a =
+    option_or (refused_access files cells a) (lack (length (unused_of frames)) (length (wanting (slice_index frames) cells a)))
+
+abbrev pub given : List (List ℕ) → Option ℕ → Cell → Cell
+given files frame cell = Mapped (perm_of cell) (unwrap_or frame (unwrap_or (frame_of cell) 0)) (contents files cell)
+
+abbrev pub overwritten : ℕ → List ℕ → Cell → Cell
+overwritten place written (Mapped perm frame bytes) = Mapped perm frame (bytes_after_write bytes place written)
+overwritten place written (Anon perm) = Anon perm
+overwritten place written (File perm file index) = File perm file index
+overwritten place written (Swapped perm slot bytes) = Swapped perm slot bytes
+
+abbrev pub carried : (Cell → Option ℕ) → ℕ → AddressSpace → ℕ
+carried number_of n cells = count_by (carries number_of n) (map.values cells)
+
+pub record Follows (number_of : Cell → Option ℕ) (old new : List ℕ) (before after : AddressSpace) : Type 0 where
+  pub numbers : length new ≡ length old
+  pub counts : (n : ℕ) → slice_index new n + carried number_of n before ≡ slice_index old n + carried number_of n after

@@ -1,0 +1,190 @@
+//! Loads, stores and page faults on the cells of one space.
+ghost use Rattle.std.specs.Prelude.{◌≡◌, ℕ, ◌+◌, ◌/◌, ◌<◌, ◌≤◌, ◌^◌, cond, true, false, List, [], length, slice_index, nat_eq, nat_lt, IfOk, IfErr, IfSome, IfNone, MatchResult, is_some, Some, None};
+ghost use Rattle.std.specs.Option.{option_map, option_and_then, option_copied};
+ghost use Rattle.std.specs.FinMap as map;
+ghost use Rattle.page_map.specs.Cell.{perm_of, frame_of, slot_of, is_past_end};
+ghost use Rattle.table_place.specs.Place.{is_user_page};
+ghost use Rattle.page_map.specs.Access.{first_page, outside_user_pages, allows, refused_at};
+ghost use Rattle.mm_model.specs.Owners.{unused_of};
+ghost use Rattle.mm_model.specs.Reach.{reaching, last_page, refused_in, carried};
+ghost use Rattle.mm_model.specs.Wants.{want_of, is_wanting, IsPlan, refusal_of};
+
+use crate::owners::Owners;
+use crate::space::AddressSpace;
+use corten_base::{PageBuf, Perm, Reply};
+use page_map::Cell;
+use std::alloc::{AllocError, Global};
+use std::marker::Model;
+
+/// Bytes of user pages that are read or written: 1 to 4,096 of them, from an address on.
+#[derive(Clone, Copy)]
+pub struct Access {
+    at: u64,
+    len: u16,
+    write: bool,
+}
+
+impl Model for Access {
+    ghost use Rattle.page_map.specs.Access.{Access};
+    ghost use Rattle.mm_model.specs.Reach.{reaching, IsUserAccess};
+
+    ghost Value = { Access };
+
+    ghost view = { λ a. reaching a.at a.len a.write };
+
+    ghost inverse = { λ a. record { at = a.at; len = a.len; write = a.write } };
+
+    ghost invariant = { λ a. IsUserAccess (reaching a.at a.len a.write) };
+}
+
+/// Whether a page is a user page.
+fn is_user(page: u64) -> bool
+    ensures { result ≡ is_user_page 4 page }
+{
+    page >= 16 && page < (1 << 35) - 1
+}
+
+impl Access {
+    /// An access, or the refusal of one that has a page which is no user page.
+    pub fn new(at: u64, len: u16, write: bool) -> Result<Access, Reply>
+        requires some { 0 < len }
+        requires few { len ≤ 4096 }
+        ensures ok { IfOk result (λ access. access ≡ reaching at len write) }
+        ensures refused { MatchResult result (λ _. outside_user_pages 4 (reaching at len write) ≡ None)
+            (λ reply. outside_user_pages 4 (reaching at len write) ≡ Some reply) }
+    {
+        let first = at / 4096;
+        if !is_user(first) {
+            return Err(Reply::Segv(4096 * first));
+        }
+        let last = (at + u64::from(len) - 1) / 4096;
+        if !is_user(last) {
+            return Err(Reply::Segv(4096 * last));
+        }
+        Ok(Access { at, len, write })
+    }
+
+    /// The first page that it touches.
+    fn first(self) -> u64
+        ensures { result ≡ first_page self }
+    {
+        self.at / 4096
+    }
+
+    /// The last page that it touches: the first, or the next.
+    fn last(self) -> u64
+        ensures { result ≡ last_page self }
+    {
+        (self.at + u64::from(self.len) - 1) / 4096
+    }
+}
+
+/// Why an access is not made.
+#[derive(Drop)]
+pub enum Stop {
+    /// It is refused with this reply.
+    Refused(Reply),
+    /// Memory is wanted.
+    NoMemory,
+}
+
+impl From<AllocError> for Stop {
+    ghost use Rattle.mm_model.specs.declared.access.Stop.TheVariants.{NoMemory};
+
+    ghost from_gives = { λ _ stop. stop ≡ NoMemory };
+
+    fn from(_error: AllocError) -> Stop {
+        Stop::NoMemory
+    }
+}
+
+/// What a page wants before an access is made to it.
+#[derive(Drop)]
+pub enum Want {
+    /// Nothing: it has a frame that serves.
+    Nothing,
+    /// A frame for the bytes that it has.
+    Frame,
+    /// A frame, and these bytes.
+    Body(PageBuf),
+}
+
+/// What the pages of an access want.
+#[derive(Drop)]
+pub struct Plan {
+    access: Access,
+    near: Want,
+    far: Want,
+}
+
+impl Want {
+    /// How many frames are wanted.
+    fn frames(&self) -> u32
+        ensures { result ≡ cond (is_wanting self.now) 1 0 }
+    {
+        match self {
+            Want::Nothing => 0,
+            Want::Frame | Want::Body(_) => 1,
+        }
+    }
+}
+
+/// The permissions of a page.
+fn permissions(cell: &Cell) -> Perm
+    ensures { result ≡ perm_of cell.now }
+{
+    match cell {
+        Cell::Anon(perm) => *perm,
+        Cell::File { perm, .. } | Cell::Mapped { perm, .. } | Cell::Swapped { perm, .. } => *perm,
+    }
+}
+
+/// Whether a page's permissions allow an access.
+fn is_allowed(write: bool, cell: &Cell) -> bool
+    ensures { result ≡ allows write cell.now }
+{
+    let perm = permissions(cell);
+    if write { perm.write } else { perm.read }
+}
+
+/// Whether a page is one of a file, wholly past its end. There are no files yet.
+fn is_beyond(cell: &Cell) -> bool
+    ensures { result ≡ is_past_end [] cell.now }
+{
+    matches!(cell, Cell::File { .. })
+}
+
+/// What a page wants.
+fn want_of(alloc: Global, frames: &Owners, write: bool, cell: &Cell) -> Result<Want, AllocError>
+    requires { IfSome (frame_of cell.now) (λ n. n < length frames.now) }
+    ensures { IfOk result (λ want. want ≡ want_of [] (slice_index frames.now) write cell.now) }
+{
+    match cell {
+        Cell::Anon(_) | Cell::File { .. } => Ok(Want::Body(PageBuf::zero(alloc)?)),
+        Cell::Mapped { frame, .. } if !write || frames.count(*frame) == 1 => Ok(Want::Nothing),
+        Cell::Mapped { .. } | Cell::Swapped { .. } => Ok(Want::Frame),
+    }
+}
+
+impl AddressSpace {
+    /// What a page wants that an access is made to, or why it is not made.
+    fn look(&self, alloc: Global, frames: &Owners, write: bool, page: u64) -> Result<Want, Stop>
+        requires page { page < 2 ^ 52 }
+        requires counted { IfSome (option_and_then frame_of (map.get self.now page)) (λ n. n < length frames.now) }
+        ensures wanted { IfOk result (λ want. option_map (want_of [] (slice_index frames.now) write) (map.get self.now page) ≡ Some want) }
+        ensures ok { IfOk result (λ _. refused_at [] write page (map.get self.now page) ≡ None) }
+        ensures refused { IfErr result (λ stop. IfSome (refusal_of stop) (λ reply. refused_at [] write page (map.get self.now page) ≡ Some reply)) }
+    {
+        let address = 4096 * page;
+        let Some(cell) = self.get(page) else {
+            return Err(Stop::Refused(Reply::Segv(address)));
+        };
+        if !is_allowed(write, cell) {
+            return Err(Stop::Refused(Reply::Denied(address)));
+        }
+        if is_beyond(cell) {
+            return Err(Stop::Refused(Reply::Bus(address)));
+        }
+        Ok(want_of(alloc, frames, write, cell)?)
+    }
+}
