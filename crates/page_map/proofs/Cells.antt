@@ -131,11 +131,11 @@ module _ (st : State) (space : ℕ) (cells : AddressSpace) (tables : Tables) (fr
   cells_keep ok here taken fits keeps =
       let each = each_cell st space cells tables in
       let frame_from : (s p : ℕ) (c : Cell) → cell_at (changed st space cells tables) s p ≡ Some c → (n : ℕ) → frame_of c ≡ Some n → Origin frame_of st frames st.limits.frames space s p n c =
-          each (λ s p c. (n : ℕ) → frame_of c ≡ Some n → Origin frame_of st frames st.limits.frames space s p n c) (λ p c e. (fits p c e).frame) (λ s p c _ e n is. kept c e is refl) in
+      each (λ s p c. (n : ℕ) → frame_of c ≡ Some n → Origin frame_of st frames st.limits.frames space s p n c) (λ p c e. (fits p c e).frame) (λ s p c _ e n is. kept c e is refl) in
       let slot_from : (s p : ℕ) (c : Cell) → cell_at (changed st space cells tables) s p ≡ Some c → (n : ℕ) → slot_of c ≡ Some n → Origin slot_of st slots st.limits.swap space s p n c =
-          each (λ s p c. (n : ℕ) → slot_of c ≡ Some n → Origin slot_of st slots st.limits.swap space s p n c) (λ p c e. (fits p c e).slot) (λ s p c _ e n is. kept c e is refl) in
+      each (λ s p c. (n : ℕ) → slot_of c ≡ Some n → Origin slot_of st slots st.limits.swap space s p n c) (λ p c e. (fits p c e).slot) (λ s p c _ e n is. kept c e is refl) in
       let one : (s t p q : ℕ) (c d : Cell) → cell_at (changed st space cells tables) s p ≡ Some c → cell_at (changed st space cells tables) t q ≡ Some d → s ≡ t → p ≡ q → c ≡ d =
-          λ s t p q c d e f a b. same_some (sym e ∙ (λ i. cell_at (changed st space cells tables) (a i) (b i)) ∙ f) in
+      λ s t p q c d e f a b. same_some (sym e ∙ (λ i. cell_at (changed st space cells tables) (a i) (b i)) ∙ f) in
       record {
         spaces = λ s h. ok.spaces s (sym (same_present here s) ∙ h);
         pages = each (λ s p c. is_user_page (levels st) p ≡ true) (λ p c e. (fits p c e).page) (λ s p c _ e. ok.pages s p c e);

@@ -61,12 +61,12 @@ module _ (st : State) (frames slots : Grant) (has : Place → Bool) (space : ℕ
   -- a cell with the same bytes and numbers fits as well
   alike_fits : (p : ℕ) (c d : Cell) → contents st.files c ≡ contents st.files d → frame_of d ≡ frame_of c → slot_of d ≡ slot_of c → Fitting p c → Fitting p d
   alike_fits p c d same frame slot h = record {
-      page = h.page;
-      bytes = ap length (sym same) ∙ h.bytes;
-      above = h.above;
-      frame = λ n is. recast frame_of frames st.limits.frames p n c d same (h.frame n (sym frame ∙ is));
-      slot = λ n is. recast slot_of slots st.limits.swap p n c d same (h.slot n (sym slot ∙ is));
-    }
+    page = h.page;
+    bytes = ap length (sym same) ∙ h.bytes;
+    above = h.above;
+    frame = λ n is. recast frame_of frames st.limits.frames p n c d same (h.frame n (sym frame ∙ is));
+    slot = λ n is. recast slot_of slots st.limits.swap p n c d same (h.slot n (sym slot ∙ is));
+  }
 
   with_perm_fits : (perm p : ℕ) (c : Cell) → Fitting p c → Fitting p (with_perm perm c)
   with_perm_fits perm p (Anon old) h = alike_fits p (Anon old) (Anon perm) refl refl refl h
@@ -164,24 +164,24 @@ module _ (st : State) (frames slots : Grant) (has : Place → Bool) (space : ℕ
   out_fits p m (File perm file index) takes got h = h
   out_fits p m (Swapped perm slot bytes) takes got h = h
   out_fits p m (Mapped perm frame bytes) takes got h = record {
-      page = h.page;
-      bytes = h.bytes;
-      above = h.above;
-      frame = λ n is. absurd (not_none (sym is));
-      slot = λ n is. let got_it : granted slots p ≡ Some n = got ∙ is in let known = takes n got_it in newly refl known.0 known.1 got_it;
-    }
+    page = h.page;
+    bytes = h.bytes;
+    above = h.above;
+    frame = λ n is. absurd (not_none (sym is));
+    slot = λ n is. let got_it : granted slots p ≡ Some n = got ∙ is in let known = takes n got_it in newly refl known.0 known.1 got_it;
+  }
 
   in_fits : (p m : ℕ) (c : Cell) → ((n : ℕ) → granted frames p ≡ Some n → (n < st.limits.frames) × (owners frame_of st n ≡ 0)) → granted frames p ≡ Some m → Fitting p c → Fitting p (in_to m c)
   in_fits p m (Anon perm) takes got h = h
   in_fits p m (File perm file index) takes got h = h
   in_fits p m (Mapped perm frame bytes) takes got h = h
   in_fits p m (Swapped perm slot bytes) takes got h = record {
-      page = h.page;
-      bytes = h.bytes;
-      above = h.above;
-      frame = λ n is. let got_it : granted frames p ≡ Some n = got ∙ is in let known = takes n got_it in newly refl known.0 known.1 got_it;
-      slot = λ n is. absurd (not_none (sym is));
-    }
+    page = h.page;
+    bytes = h.bytes;
+    above = h.above;
+    frame = λ n is. let got_it : granted frames p ≡ Some n = got ∙ is in let known = takes n got_it in newly refl known.0 known.1 got_it;
+    slot = λ n is. absurd (not_none (sym is));
+  }
 
   move_fits : (to : ℕ → Cell → Cell) (grants : Grant) (p : ℕ) (c : Cell) → ((m : ℕ) → granted grants p ≡ Some m → Fitting p c → Fitting p (to m c)) → Fitting p c → Fitting p (moved to (granted grants p) c)
   move_fits to grants p c fit h = go (granted grants p) refl

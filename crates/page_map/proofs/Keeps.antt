@@ -10,17 +10,19 @@ use Rattle.corten_base.specs.declared.calls.Call.TheVariants as call
 use Rattle.corten_base.specs.declared.calls.MapPlace.TheVariants as place
 use Rattle.corten_base.specs.declared.calls.Reply.{Reply}
 use Rattle.corten_base.specs.declared.calls.Reply.TheVariants as reply
+use Rattle.corten_base.specs.declared.calls.TxnOp.{TxnOp}
 use Rattle.corten_base.specs.declared.calls.TxnOp.TheVariants as op
+use Rattle.corten_base.specs.declared.calls.Why.{Why}
 use Rattle.table_place.specs.declared.Place.{Place}
 use Rattle.table_place.specs.Place.{pages_of, is_user_range}
 use Rattle.page_map.specs.Tables.{need}
 use Rattle.page_map.specs.State.{State, IsConsistent, levels, linked, space_at, is_present, unused_frames, unused_slots}
-use Rattle.page_map.specs.Mapping.{is_mappable, is_backing, is_page_range, gap}
+use Rattle.page_map.specs.Mapping.{is_mappable, is_backing, is_page_range, is_right_within, undone, gap}
 use Rattle.page_map.specs.Effect.{wanted_tables, is_given_up, state_after, wanting_frames_of, wanting_slots_of}
 use Rattle.page_map.specs.Step.{step, refusal, refused_unless, no_tables, no_frames, no_swap}
 use Rattle.page_map.proofs.Steps.{Passed, passed, refused, accepted, not_none}
 use Rattle.page_map.proofs.Unmapped.{held_of}
-use Rattle.page_map.proofs.Mappings.{IsOver, some_pages, page_range, right_over, gap_user, ops_keep}
+use Rattle.page_map.proofs.Mappings.{IsOver, some_pages, page_range, right_over, all_over, gap_user, ops_keep}
 use Rattle.page_map.proofs.Touched.{access_keeps, out_keeps, in_keeps}
 
 module _ (st : State) (thread : ℕ) (c : Call) (limbo : ℕ) (ok : Passed st thread c limbo) where
@@ -73,6 +75,60 @@ module _ (st : State) (thread limbo space : ℕ) where
       let c = call.Map space place.Any len perm what in
       ops_keep st space (is_given_up st c) (op.Map (4096 * unwrap_or (gap thread (space_at st space) (pages_of len)) 0) false len perm what ∷ []) ok
       (held_of _ _ passed.space) (λ p. refl) (any_over len perm what few passed, tt) (room st thread c limbo passed)
+
+  -- a mapping at a place goes over the range that it names
+  at_over : (new : Bool) (at len perm : ℕ) (what : Backing) → (is_mappable (levels st) st.files len what && is_page_range (levels st) at len) ≡ true → IsOver (levels st) (op.Map at new len perm what)
+  at_over new at len perm what right = right_over (levels st) st.files (op.Map at new len perm what) right
+
+  pub map_at_keeps : (at len perm : ℕ) (what : Backing) → IsConsistent st → Passed st thread (call.Map space (place.At at) len perm what) limbo →
+      IsConsistent (state_after st thread (call.Map space (place.At at) len perm what))
+  unfolding state_after
+  map_at_keeps at len perm what ok passed =
+      let c = call.Map space (place.At at) len perm what in
+      ops_keep st space (is_given_up st c) (op.Map at false len perm what ∷ []) ok
+      (held_of _ _ passed.space) (λ p. refl) (at_over false at len perm what (held_of _ _ passed.arguments), tt) (room st thread c limbo passed)
+
+  pub map_new_keeps : (at len perm : ℕ) (what : Backing) → IsConsistent st → Passed st thread (call.Map space (place.New at) len perm what) limbo →
+      IsConsistent (state_after st thread (call.Map space (place.New at) len perm what))
+  unfolding state_after
+  map_new_keeps at len perm what ok passed =
+      let c = call.Map space (place.New at) len perm what in
+      ops_keep st space (is_given_up st c) (op.Map at true len perm what ∷ []) ok
+      (held_of _ _ passed.space) (λ p. refl) (at_over true at len perm what (held_of _ _ passed.arguments), tt) (room st thread c limbo passed)
+
+  -- ---- `protect` and transactions
+
+  pub protect_keeps : (at len perm : ℕ) → IsConsistent st → Passed st thread (call.Protect space at len perm) limbo → IsConsistent (state_after st thread (call.Protect space at len perm))
+  unfolding state_after
+  protect_keeps at len perm ok passed =
+      let c = call.Protect space at len perm in
+      ops_keep st space (is_given_up st c) (op.Protect at len perm ∷ []) ok
+      (held_of _ _ passed.space) (λ p. refl) (right_over (levels st) st.files (op.Protect at len perm) (held_of _ _ passed.arguments), tt) (room st thread c limbo passed)
+
+  pub txn_keeps : (at len : ℕ) (ops : List TxnOp) → IsConsistent st → Passed st thread (call.Txn space at len ops) limbo → IsConsistent (state_after st thread (call.Txn space at len ops))
+  unfolding state_after
+  txn_keeps at len ops ok passed =
+      let c = call.Txn space at len ops in
+      ops_keep st space (is_given_up st c) ops ok
+      (held_of _ _ passed.space) (λ p. refl) (all_over (levels st) st.files (at / 4096) (pages_of len) ops (space_at st space) (not_undone (undone (is_right_within (levels st) st.files (at / 4096) (pages_of len)) 1 ops (space_at st space)) passed.pages)) (room st thread c limbo passed)
+    where
+      not_undone : (u : Option (ℕ × Why)) → option_map {U = Reply} (λ v. reply.Undone v.0 v.1) u ≡ None → u ≡ None
+      not_undone None e = refl
+      not_undone (Some v) e = absurd (not_none e)
+
+  -- ---- swap
+
+  pub out_call_keeps : (at len : ℕ) → IsConsistent st → Passed st thread (call.SwapOut space at len) limbo → IsConsistent (state_after st thread (call.SwapOut space at len))
+  unfolding state_after
+  out_call_keeps at len ok passed =
+      let c = call.SwapOut space at len in
+      out_keeps st space (is_given_up st c) ok (held_of _ _ passed.space) (λ p. refl) (room st thread c limbo passed) (at / 4096) (pages_of len) (wanting_slots_of st c)
+
+  pub in_call_keeps : (at len : ℕ) → IsConsistent st → Passed st thread (call.SwapIn space at len) limbo → IsConsistent (state_after st thread (call.SwapIn space at len))
+  unfolding state_after
+  in_call_keeps at len ok passed =
+      let c = call.SwapIn space at len in
+      in_keeps st space (is_given_up st c) ok (held_of _ _ passed.space) (λ p. refl) (room st thread c limbo passed) (at / 4096) (pages_of len) (wanting_frames_of st c)
 
   -- ---- accesses
 

@@ -22,3 +22,6 @@ pub mod Least
 pub mod Mappings
 pub mod Touched
 pub mod Keeps
+pub mod Removed
+pub mod Spaces
+pub mod StepKeeps

@@ -35,7 +35,7 @@ module _ (st : State) (pages : List ℕ) where
   slots_taken = record { frames_apart = λ p q n e f. absurd (not_none (sym e)); slots_apart = granted_apart (slot_owners st) st.limits.swap pages }
 
 module _ (st : State) (space : ℕ) (is_given_up : Place → Bool) (ok : IsConsistent st) (here : is_present st space ≡ true) (none : (p : Place) → is_given_up p ≡ false)
-  (room : linked st + need [] st.tables ≤ st.limits.tables) where
+    (room : linked st + need [] st.tables ≤ st.limits.tables) where
   abbrev tables_left : set.FinSet place_cmp
   tables_left = changed_tables is_given_up [] st.tables
 
