@@ -11,6 +11,7 @@ use Rattle.corten_base.specs.declared.calls.Backing.{Backing}
 use Rattle.corten_base.specs.declared.calls.Backing.TheVariants as backing
 use Rattle.corten_base.specs.declared.calls.TxnOp.{TxnOp}
 use Rattle.corten_base.specs.declared.calls.TxnOp.TheVariants as op
+use Rattle.corten_base.specs.declared.permissions.Perm.{Perm}
 use Rattle.table_place.specs.declared.Place.{Place}
 use Rattle.table_place.specs.Range.{within}
 use Rattle.table_place.specs.Place.{place_of, pages_of, is_user_range}
@@ -68,7 +69,7 @@ module _ (st : State) (frames slots : Grant) (has : Place → Bool) (space : ℕ
     slot = λ n is. recast slot_of slots st.limits.swap p n c d same (h.slot n (sym slot ∙ is));
   }
 
-  with_perm_fits : (perm p : ℕ) (c : Cell) → Fitting p c → Fitting p (with_perm perm c)
+  with_perm_fits : (perm : Perm) (p : ℕ) (c : Cell) → Fitting p c → Fitting p (with_perm perm c)
   with_perm_fits perm p (Anon old) h = alike_fits p (Anon old) (Anon perm) refl refl refl h
   with_perm_fits perm p (File old file index) h = alike_fits p (File old file index) (File perm file index) refl refl refl h
   with_perm_fits perm p (Mapped old frame bytes) h = alike_fits p (Mapped old frame bytes) (Mapped perm frame bytes) refl refl refl h
@@ -81,11 +82,11 @@ module _ (st : State) (frames slots : Grant) (has : Place → Bool) (space : ℕ
     pub user : is_user_range (levels st) (op_first o) (op_pages o) ≡ true
     pub above : is_map o ≡ true → (page k : ℕ) → within (op_first o) (op_pages o) page ≡ true → 1 ≤ k → k ≤ levels st → has (place_of space k page) ≡ true
 
-  no_frame : (what : Backing) (perm i : ℕ) → frame_of (backed what perm i) ≡ None
+  no_frame : (what : Backing) (perm : Perm) (i : ℕ) → frame_of (backed what perm i) ≡ None
   no_frame backing.Zero perm i = refl
   no_frame (backing.File file index) perm i = refl
 
-  no_slot : (what : Backing) (perm i : ℕ) → slot_of (backed what perm i) ≡ None
+  no_slot : (what : Backing) (perm : Perm) (i : ℕ) → slot_of (backed what perm i) ≡ None
   no_slot backing.Zero perm i = refl
   no_slot (backing.File file index) perm i = refl
 

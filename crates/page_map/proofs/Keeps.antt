@@ -13,11 +13,12 @@ use Rattle.corten_base.specs.declared.calls.Reply.TheVariants as reply
 use Rattle.corten_base.specs.declared.calls.TxnOp.{TxnOp}
 use Rattle.corten_base.specs.declared.calls.TxnOp.TheVariants as op
 use Rattle.corten_base.specs.declared.calls.Why.{Why}
+use Rattle.corten_base.specs.declared.permissions.Perm.{Perm}
 use Rattle.table_place.specs.declared.Place.{Place}
-use Rattle.table_place.specs.Place.{pages_of, is_user_range}
+use Rattle.table_place.specs.Place.{pages_of, is_user_range, is_page_range}
 use Rattle.page_map.specs.Tables.{need}
 use Rattle.page_map.specs.State.{State, IsConsistent, levels, linked, space_at, is_present, unused_frames, unused_slots}
-use Rattle.page_map.specs.Mapping.{is_mappable, is_backing, is_page_range, is_right_within, undone, gap}
+use Rattle.page_map.specs.Mapping.{is_mappable, is_backing, is_right_within, undone, gap}
 use Rattle.page_map.specs.Effect.{wanted_tables, is_given_up, state_after, wanting_frames_of, wanting_slots_of}
 use Rattle.page_map.specs.Step.{step, refusal, refused_unless, no_tables, no_frames, no_swap}
 use Rattle.page_map.proofs.Steps.{Passed, passed, refused, accepted, not_none}
@@ -55,7 +56,7 @@ module _ (st : State) (thread limbo space : ℕ) where
   -- ---- `map`
 
   -- a mapping without a place goes over user pages
-  any_over : (len perm : ℕ) (what : Backing) → thread < 8 → Passed st thread (call.Map space place.Any len perm what) limbo →
+  any_over : (len : ℕ) (perm : Perm) (what : Backing) → thread < 8 → Passed st thread (call.Map space place.Any len perm what) limbo →
       IsOver (levels st) (op.Map (4096 * unwrap_or (gap thread (space_at st space) (pages_of len)) 0) false len perm what)
   any_over len perm what few ok =
       let sized = and_parts (nat_lt 0 len) (nat_le len (2 ^ 47)) (and_parts (nat_lt 0 len && nat_le len (2 ^ 47)) (is_backing st.files what) (held_of _ _ ok.arguments)).0 in
@@ -68,7 +69,7 @@ module _ (st : State) (thread limbo space : ℕ) where
           same : (n : ℕ) → 4096 * n / 4096 ≡ n
           same n = omega arith
 
-  pub map_any_keeps : (len perm : ℕ) (what : Backing) → thread < 8 → IsConsistent st → Passed st thread (call.Map space place.Any len perm what) limbo →
+  pub map_any_keeps : (len : ℕ) (perm : Perm) (what : Backing) → thread < 8 → IsConsistent st → Passed st thread (call.Map space place.Any len perm what) limbo →
       IsConsistent (state_after st thread (call.Map space place.Any len perm what))
   unfolding state_after
   map_any_keeps len perm what few ok passed =
@@ -77,10 +78,10 @@ module _ (st : State) (thread limbo space : ℕ) where
       (held_of _ _ passed.space) (λ p. refl) (any_over len perm what few passed, tt) (room st thread c limbo passed)
 
   -- a mapping at a place goes over the range that it names
-  at_over : (new : Bool) (at len perm : ℕ) (what : Backing) → (is_mappable (levels st) st.files len what && is_page_range (levels st) at len) ≡ true → IsOver (levels st) (op.Map at new len perm what)
+  at_over : (new : Bool) (at len : ℕ) (perm : Perm) (what : Backing) → (is_mappable (levels st) st.files len what && is_page_range (levels st) at len) ≡ true → IsOver (levels st) (op.Map at new len perm what)
   at_over new at len perm what right = right_over (levels st) st.files (op.Map at new len perm what) right
 
-  pub map_at_keeps : (at len perm : ℕ) (what : Backing) → IsConsistent st → Passed st thread (call.Map space (place.At at) len perm what) limbo →
+  pub map_at_keeps : (at len : ℕ) (perm : Perm) (what : Backing) → IsConsistent st → Passed st thread (call.Map space (place.At at) len perm what) limbo →
       IsConsistent (state_after st thread (call.Map space (place.At at) len perm what))
   unfolding state_after
   map_at_keeps at len perm what ok passed =
@@ -88,7 +89,7 @@ module _ (st : State) (thread limbo space : ℕ) where
       ops_keep st space (is_given_up st c) (op.Map at false len perm what ∷ []) ok
       (held_of _ _ passed.space) (λ p. refl) (at_over false at len perm what (held_of _ _ passed.arguments), tt) (room st thread c limbo passed)
 
-  pub map_new_keeps : (at len perm : ℕ) (what : Backing) → IsConsistent st → Passed st thread (call.Map space (place.New at) len perm what) limbo →
+  pub map_new_keeps : (at len : ℕ) (perm : Perm) (what : Backing) → IsConsistent st → Passed st thread (call.Map space (place.New at) len perm what) limbo →
       IsConsistent (state_after st thread (call.Map space (place.New at) len perm what))
   unfolding state_after
   map_new_keeps at len perm what ok passed =
@@ -98,7 +99,7 @@ module _ (st : State) (thread limbo space : ℕ) where
 
   -- ---- `protect` and transactions
 
-  pub protect_keeps : (at len perm : ℕ) → IsConsistent st → Passed st thread (call.Protect space at len perm) limbo → IsConsistent (state_after st thread (call.Protect space at len perm))
+  pub protect_keeps : (at len : ℕ) (perm : Perm) → IsConsistent st → Passed st thread (call.Protect space at len perm) limbo → IsConsistent (state_after st thread (call.Protect space at len perm))
   unfolding state_after
   protect_keeps at len perm ok passed =
       let c = call.Protect space at len perm in

@@ -14,11 +14,11 @@ use Rattle.corten_base.specs.declared.calls.Why.{Why}
 use Rattle.corten_base.specs.declared.calls.Why.TheVariants as why
 use Rattle.table_place.specs.declared.Place.{Place}
 use Rattle.table_place.specs.Range.{lies_in}
-use Rattle.table_place.specs.Place.{place_cmp, place_of, pages_of, is_user_range}
+use Rattle.table_place.specs.Place.{place_cmp, place_of, pages_of, is_user_range, is_page_range}
 use Rattle.page_map.specs.Takes.{Grant, granted}
 use Rattle.page_map.specs.Tables.{changed_tables, need}
 use Rattle.page_map.specs.State.{State, AddressSpace, IsConsistent, levels, linked, space_at, is_present}
-use Rattle.page_map.specs.Mapping.{is_page_range, is_right, is_right_within, op_first, op_pages, is_map, refused_op, after_op, after_ops, why_undone, undone, gap, arena_first, is_free}
+use Rattle.page_map.specs.Mapping.{is_right, is_right_within, op_first, op_pages, is_map, refused_op, after_op, after_ops, why_undone, undone, gap, arena_first, is_free}
 use Rattle.page_map.specs.Effect.{above_op}
 use Rattle.page_map.proofs.Steps.{not_none}
 use Rattle.page_map.proofs.Above.{any_append}
