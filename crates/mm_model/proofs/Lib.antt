@@ -3,3 +3,4 @@ pub mod Sets
 pub mod Bits
 pub mod Tally
 pub mod Reach
+pub mod Plans

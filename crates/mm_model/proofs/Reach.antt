@@ -4,13 +4,14 @@ use Rattle.std.specs.Prelude.{Option, Some, None, nat_eq, nat_lt, nat_le, slice_
 use Rattle.std.specs.Option.{option_map, option_or, unwrap_or}
 use mathlib.Core.Logic.{◌⊎◌, inl, inr}
 use Rattle.std.proofs.lemmas.Bool.{cases_eq, eq-eqb, ne_eqb, le-leb, lt-ltb, and_from}
-use Rattle.std.proofs.lemmas.List.{take_all, drop_all, length-replicate}
-use Rattle.corten_base.specs.Bytes.{zeros}
+use Rattle.std.proofs.lemmas.List.{take_all, drop_all}
+use Rattle.corten_base.specs.Bytes as body
 use Rattle.corten_base.specs.declared.calls.Reply.TheVariants as reply
 use Rattle.table_place.specs.Place.{is_user_page}
 use Rattle.page_map.specs.Change.{earliest}
-use Rattle.page_map.specs.Cell.{file_page, file_bytes}
+use Rattle.page_map.specs.Cell.{zeros, file_page, file_bytes}
 use Rattle.page_map.specs.Access.{Access, first_page, page_count, outside_user_pages}
+use Rattle.page_map.proofs.Bytes.{length_zeros}
 use Rattle.mm_model.specs.Reach.{reaching, last_page, IsUserAccess}
 
 -- the answer of the first number of a range, or else those of the others
@@ -81,9 +82,10 @@ module _ (a : Access) (some : 0 < a.len) (few : a.len ≤ 4096) where
 pub user_access : (a : Access) → IsUserAccess a → outside_user_pages 4 a ≡ None
 user_access a u = outside_last a u.some u.few (user a u.some u.few (first_page a) u.low (omega (arith, u.high, u.some))) true (user a u.some u.few (last_page a) (omega (arith, u.low, u.some)) u.high)
 
-pub length_zeros : length zeros ≡ 4096
-unfolding zeros
-length_zeros = length-replicate {A = ℕ} 4096 0
+-- the zeros of a new page body are those of the definitions
+pub same_zeros : body.zeros ≡ zeros
+unfolding body.zeros zeros
+same_zeros = refl
 
 cut_zeros : (k n : ℕ) (bytes zs : List ℕ) → bytes ≡ [] → length zs ≡ k → take k (drop n bytes ++ zs) ≡ zs
 cut_zeros k n bytes zs none long =

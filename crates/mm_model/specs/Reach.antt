@@ -1,10 +1,11 @@
 -- Accesses to the cells of one space, beside the counts of owners of the frames and the swap slots.
 --     reaching, storing      an access that stores nothing;  one that stores bytes
---     last_page, IsUserAccess      its last page;  whether it has 1 to 4,096 bytes, in user pages alone
+--     last_page, beyond, IsUserAccess      its last page;  whether that is another than the first;  whether it has 1 to 4,096 bytes, in user pages alone
 --     wants, wanting      whether a page wants a frame, by the counts of owners;  the pages of an access that do
 --     lack, refused_in      too few unused frames;  the reply of the first that refuses: the pages in ascending order, then the unused frames
 --     given, overwritten      a page on the frame that it got;  a page after bytes were written at a place in it
---     carried, Follows      how many cells carry a number;  counts that have changed as cells have
+--     carried, one_at      how many cells carry a number;  1 for the number that is there
+--     IsCounted, Follows      counts of no fewer owners than the cells of one space;  counts that have changed as cells have
 use Rattle.std.specs.Prelude.{◌≡◌, ℕ, ◌+◌, ◌-◌, ◌/◌, ◌^◌, ◌<◌, ◌≤◌, Bool, true, false, cond, not, ◌&&◌, List, [], length, slice_index, nat_eq, nat_lt, Option, Some, None}
 use Rattle.std.specs.Option.{unwrap_or, option_or}
 use Rattle.std.specs.List.{count_by}
@@ -28,6 +29,10 @@ storing at bytes = record { at = at; len = length bytes; write = true; stored = 
 
 abbrev pub last_page : Access → ℕ
 last_page a = (a.at + a.len - 1) / 4096
+
+-- one thing where the last page is the first, and another where it is not
+abbrev pub beyond : {A : Type 0} → Access → A → A → A
+beyond a one two = cond (nat_eq (last_page a) (first_page a)) one two
 
 pub record IsUserAccess (a : Access) : Type 0 where
   pub some : 0 < a.len
@@ -62,6 +67,13 @@ overwritten place written (Swapped perm slot bytes) = Swapped perm slot bytes
 
 abbrev pub carried : (Cell → Option ℕ) → ℕ → AddressSpace → ℕ
 carried number_of n cells = count_by (carries number_of n) (map.values cells)
+
+abbrev pub one_at : Option ℕ → ℕ → ℕ
+one_at None n = 0
+one_at (Some m) n = cond (nat_eq m n) 1 0
+
+pub record IsCounted (number_of : Cell → Option ℕ) (counts : List ℕ) (cells : AddressSpace) : Type 0 where
+  pub each : (n : ℕ) → carried number_of n cells ≤ slice_index counts n
 
 pub record Follows (number_of : Cell → Option ℕ) (old new : List ℕ) (before after : AddressSpace) : Type 0 where
   pub numbers : length new ≡ length old

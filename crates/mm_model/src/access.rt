@@ -1,12 +1,13 @@
 //! Loads, stores and page faults on the cells of one space.
-ghost use Rattle.std.specs.Prelude.{◌≡◌, ℕ, ◌+◌, ◌/◌, ◌<◌, ◌≤◌, ◌^◌, cond, true, false, List, [], length, slice_index, nat_eq, nat_lt, IfOk, IfErr, IfSome, IfNone, MatchResult, is_some, Some, None};
+ghost use Rattle.std.specs.Prelude.{◌≡◌, ℕ, ◌+◌, ◌/◌, ◌<◌, ◌≤◌, ◌^◌, cond, true, false, List, [], ◌∷◌, length, slice_index, nat_eq, nat_lt, IfOk, IfErr, IfSome, IfNone, MatchResult, is_some, Some, None};
 ghost use Rattle.std.specs.Option.{option_map, option_and_then, option_copied};
 ghost use Rattle.std.specs.FinMap as map;
 ghost use Rattle.page_map.specs.Cell.{perm_of, frame_of, slot_of, is_past_end};
 ghost use Rattle.table_place.specs.Place.{is_user_page};
 ghost use Rattle.page_map.specs.Access.{first_page, outside_user_pages, allows, refused_at};
 ghost use Rattle.mm_model.specs.Owners.{unused_of};
-ghost use Rattle.mm_model.specs.Reach.{reaching, last_page, refused_in, carried};
+ghost use Rattle.mm_model.specs.Reach.{reaching, last_page, beyond, refused_in, one_at, IsCounted};
+ghost use Rattle.mm_model.specs.declared.access.Want.TheVariants.{Nothing};
 ghost use Rattle.mm_model.specs.Wants.{want_of, is_wanting, IsPlan, refusal_of};
 
 use crate::owners::Owners;
@@ -66,14 +67,16 @@ impl Access {
 
     /// The first page that it touches.
     fn first(self) -> u64
-        ensures { result ≡ first_page self }
+        ensures value { result ≡ first_page self }
+        ensures small { result < 2 ^ 35 }
     {
         self.at / 4096
     }
 
     /// The last page that it touches: the first, or the next.
     fn last(self) -> u64
-        ensures { result ≡ last_page self }
+        ensures value { result ≡ last_page self }
+        ensures small { result < 2 ^ 35 }
     {
         (self.at + u64::from(self.len) - 1) / 4096
     }
@@ -125,6 +128,21 @@ impl Want {
         match self {
             Want::Nothing => 0,
             Want::Frame | Want::Body(_) => 1,
+        }
+    }
+
+    /// The frame that is wanted, the least unused one.
+    fn take(&self, frames: &mut Owners) -> Option<u32>
+        requires { is_wanting self.now ≡ true → 0 < length (unused_of frames.old) }
+        ensures some { is_some result ≡ is_wanting self.now }
+        ensures taken { IfSome result (λ n. unused_of frames.old ≡ n ∷ unused_of frames.new) }
+        ensures counts { (n : ℕ) → slice_index frames.new n ≡ slice_index frames.old n + one_at result n }
+        ensures numbers { length frames.new ≡ length frames.old }
+        ensures none { IfNone result (frames.new ≡ frames.old) }
+    {
+        match self {
+            Want::Nothing => None,
+            Want::Frame | Want::Body(_) => frames.take(),
         }
     }
 }
@@ -186,5 +204,36 @@ impl AddressSpace {
             return Err(Stop::Refused(Reply::Bus(address)));
         }
         Ok(want_of(alloc, frames, write, cell)?)
+    }
+
+    /// What the last page of an access wants, where it is not the first.
+    fn look_beyond(&self, alloc: Global, frames: &Owners, access: Access) -> Result<Want, Stop>
+        requires { IsCounted frame_of frames.now self.now }
+        ensures wanted { IfOk result (λ want. beyond access (Some Nothing) (option_map (want_of [] (slice_index frames.now) access.write) (map.get self.now (last_page access))) ≡ Some want) }
+        ensures ok { IfOk result (λ _. beyond access None (refused_at [] access.write (last_page access) (map.get self.now (last_page access))) ≡ None) }
+        ensures refused { IfErr result (λ stop. IfSome (refusal_of stop) (λ reply. beyond access None (refused_at [] access.write (last_page access) (map.get self.now (last_page access))) ≡ Some reply)) }
+    {
+        if access.last() == access.first() {
+            return Ok(Want::Nothing);
+        }
+        self.look(alloc, frames, access.write, access.last())
+    }
+
+    /// What the pages of an access want, or why it is not made.
+    pub fn plan(&self, alloc: Global, frames: &Owners, access: Access) -> Result<Plan, Stop>
+        requires { IsCounted frame_of frames.now self.now }
+        ensures access { IfOk result (λ plan. plan.access ≡ access) }
+        ensures plan { IfOk result (IsPlan [] self.now (slice_index frames.now)) }
+        ensures ok { IfOk result (λ _. refused_in [] self.now frames.now access ≡ None) }
+        ensures refused { IfErr result (λ stop. IfSome (refusal_of stop) (λ reply. refused_in [] self.now frames.now access ≡ Some reply)) }
+    {
+        let near = self.look(alloc, frames, access.write, access.first())?;
+        let far = self.look_beyond(alloc, frames, access)?;
+        let need = near.frames() + far.frames();
+        let free = frames.free();
+        if free < need {
+            return Err(Stop::Refused(Reply::NoFrames { free, need }));
+        }
+        Ok(Plan { access, near, far })
     }
 }

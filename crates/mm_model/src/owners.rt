@@ -98,6 +98,7 @@ impl Owners {
     /// Gives the least unused number to one key.
     pub fn take(&mut self) -> Option<u32>
         ensures taken { IfSome result (λ n. unused_of self.old ≡ n ∷ unused_of self.new) }
+        ensures unused { IfSome result (λ n. (n < length self.old) × (slice_index self.old n ≡ 0)) }
         ensures count { IfSome result (λ n. self.new ≡ slice_set self.old n 1) }
         ensures none { IfNone result (unused_of self.old ≡ []) }
         ensures unchanged { IfNone result (self.new ≡ self.old) }

@@ -34,3 +34,8 @@ pub returns-clause-taken : goal.returns-clause-taken
 returns-clause-taken c =
     let l = least (goal.at.returns-clause-taken c).In_ok-number in
     ap unused_of (sym c.self.view_is) ∙ unused-taken c.self.inside.counts.items c.in_ok-number.number 1 l.0 l.1 (λ e. absurd (omega (arith, e))) l.2
+
+pub returns-clause-unused : goal.returns-clause-unused
+returns-clause-unused c =
+    let l = least (goal.at.returns-clause-unused c).In_ok-number in
+    subst (λ counts. (c.in_ok-number.number < length counts) × (get_or counts c.in_ok-number.number 0 ≡ 0)) c.self.view_is (l.0, l.1)
