@@ -1,2 +1,6 @@
-pub mod Borrowed
+pub mod Variants
 pub mod Sets
+pub mod Least
+pub mod Free
+pub mod Fills
+pub mod Gaps
