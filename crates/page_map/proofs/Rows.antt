@@ -1,5 +1,5 @@
 -- Worked rows.
-use Rattle.std.proofs.Common.{◌≡◌, ◌≤◌, arith, ℕ, ◌+◌, ◌*◌, ◌^◌, List, [], ◌∷◌, length, refl, ap, ◌∙◌}
+use Rattle.std.proofs.Common.{◌≡◌, true, ◌≤◌, arith, ℕ, ◌+◌, ◌*◌, ◌^◌, List, [], ◌∷◌, length, refl, ap, ◌∙◌}
 use Rattle.std.specs.Prelude.{Option, Some, None, false, cond, nat_lt}
 use Rattle.std.specs.FinMap.{gets, entries-insert}
 use Rattle.std.specs.FinMap as fin
@@ -32,6 +32,13 @@ use Rattle.page_map.specs.Effect.{state_after, answer, wanted_tables, above_op, 
 use Rattle.page_map.proofs.Steps.{Passed, by_none, by_pages, accepted, refused}
 use Rattle.page_map.proofs.Places.{place_total, place_exact, written_out}
 use Rattle.page_map.proofs.Evaluate.{entries_empty, retain_empty, retain_insert, difference_is}
+use Rattle.corten_base.specs.declared.permissions.Perm.{Perm}
+
+abbrev pub rw : Perm
+rw = record { read = true; write = true; exec = false }
+
+abbrev pub read_only : Perm
+read_only = record { read = true; write = false; exec = false }
 
 abbrev limits : Limits
 limits = record { frames = 2; tables = 8; swap = 1 }
@@ -40,7 +47,7 @@ abbrev st0 : State
 st0 = start limits []
 
 abbrev map_one : Call
-map_one = call.Map 0 place.Any 1 3 backing.Zero
+map_one = call.Map 0 place.Any 1 rw backing.Zero
 
 pos : ℕ → ℕ → Place
 pos level prefix = record { space = 0; level = level; prefix = prefix }
@@ -51,7 +58,7 @@ gap0 = simp (gets, entries_empty) refl
 
 wanted0 : wanted_tables st0 0 map_one ≡ pos 1 262144 ∷ pos 2 512 ∷ pos 3 1 ∷ pos 4 0 ∷ []
 unfolding above pos
-wanted0 = ap (λ (o : Option ℕ). flat_map (above_op st0 0) (op.Map (4096 * unwrap_or o 0) false 1 3 backing.Zero ∷ [])) gap0
+wanted0 = ap (λ (o : Option ℕ). flat_map (above_op st0 0) (op.Map (4096 * unwrap_or o 0) false 1 rw backing.Zero ∷ [])) gap0
 
 need0 : need (pos 1 262144 ∷ pos 2 512 ∷ pos 3 1 ∷ pos 4 0 ∷ []) st0.tables ≡ 3
 unfolding start pos
@@ -91,7 +98,7 @@ first_reply = ap (λ p. p.0) (accepted st0 0 map_one 0 (by_none st0 0 map_one 0 
 -- ---- the state after it, and the second line
 
 abbrev cells1 : AddressSpace
-cells1 = fin.insert fin.empty 134217728 (Anon 3)
+cells1 = fin.insert fin.empty 134217728 (Anon rw)
 
 abbrev st1 : State
 st1 = record st0 {
@@ -100,7 +107,7 @@ st1 = record st0 {
 }
 
 abbrev protect_two : Call
-protect_two = call.Protect 0 0x8000000000 8192 1
+protect_two = call.Protect 0 0x8000000000 8192 read_only
 
 abbrev store_two : Call
 store_two = call.Store 0 0x8000000000 (0x68 ∷ 0x69 ∷ [])
@@ -125,14 +132,14 @@ store_passes = record {
 state1 : state_after st0 0 map_one ≡ st1
 unfolding state_after start after_op change pos above
 state1 =
-    ap (λ (o : Option ℕ). let o1 = op.Map (4096 * unwrap_or o 0) false 1 3 backing.Zero in record st0 {
+    ap (λ (o : Option ℕ). let o1 = op.Map (4096 * unwrap_or o 0) false 1 rw backing.Zero in record st0 {
       spaces = fin.insert st0.spaces 0 (after_op o1 (space_at st0 0));
       tables = changed_tables (is_given_up st0 map_one) (flat_map (above_op st0 0) (o1 ∷ [])) st0.tables;
     }) gap0
     ∙ simp written_out refl
 
 abbrev cells2 : AddressSpace
-cells2 = fin.insert cells1 134217728 (Mapped 3 0 (written 0x8000000000 (0x68 ∷ 0x69 ∷ []) 134217728 zeros))
+cells2 = fin.insert cells1 134217728 (Mapped rw 0 (written 0x8000000000 (0x68 ∷ 0x69 ∷ []) 134217728 zeros))
 
 abbrev st2 : State
 st2 = record st1 { spaces = fin.insert st1.spaces 0 cells2; tables = st1.tables }

@@ -30,6 +30,7 @@ use Rattle.corten_base.specs.declared.calls.Why.{Why}
 use Rattle.corten_base.specs.declared.calls.TxnOp.{TxnOp}
 use Rattle.std.specs.Option.{option_map, option_or}
 use Rattle.page_map.specs.Mapping.{refused_op, undone, is_right_within}
+use Rattle.page_map.proofs.Rows.{rw, read_only}
 
 abbrev limits : Limits
 limits = record { frames = 2; tables = 8; swap = 1 }
@@ -51,7 +52,7 @@ with_cells cells = record { spaces = fin.insert fin.empty 0 cells; tables = tabl
 
 module _ (bytes : List ℕ) where
   abbrev one : AddressSpace
-  one = fin.insert fin.empty b (Mapped 3 0 bytes)
+  one = fin.insert fin.empty b (Mapped rw 0 bytes)
 
   -- fork: no refusal, space 1, eight tables, two owners
   fork_passes : refusal (with_cells one) 0 (call.Fork 0) 0 ≡ None
@@ -74,11 +75,11 @@ module _ (bytes : List ℕ) where
   fork_owners = simp written_out refl
 
   -- copy on write: the child takes frame 1
-  fork_store : cell_at (state_after forked 0 (call.Store 1 at_b (0x62 ∷ []))) 1 b ≡ Some (Mapped 3 1 (written at_b (0x62 ∷ []) b bytes))
+  fork_store : cell_at (state_after forked 0 (call.Store 1 at_b (0x62 ∷ []))) 1 b ≡ Some (Mapped rw 1 (written at_b (0x62 ∷ []) b bytes))
   unfolding state_after earliest owners after_access change above
   fork_store = simp written_out refl
 
-  fork_store_parent : cell_at (state_after forked 0 (call.Store 1 at_b (0x62 ∷ []))) 0 b ≡ Some (Mapped 3 0 bytes)
+  fork_store_parent : cell_at (state_after forked 0 (call.Store 1 at_b (0x62 ∷ []))) 0 b ≡ Some (Mapped rw 0 bytes)
   unfolding state_after earliest owners after_access change above
   fork_store_parent = simp written_out refl
 
@@ -91,31 +92,31 @@ module _ (bytes : List ℕ) where
   unfolding answer earliest owners
   out_reply = simp written_out refl
 
-  out_cell : cell_at (state_after (with_cells one) 0 (call.SwapOut 0 at_b 4096)) 0 b ≡ Some (Swapped 3 0 bytes)
+  out_cell : cell_at (state_after (with_cells one) 0 (call.SwapOut 0 at_b 4096)) 0 b ≡ Some (Swapped rw 0 bytes)
   unfolding state_after owners moved_to change
   out_cell = simp written_out refl
 
   -- a transaction that is undone, and one that is done
   abbrev hole_op : TxnOp
-  hole_op = op.Protect at_b 8192 1
+  hole_op = op.Protect at_b 8192 read_only
 
-  after_first : after_op (op.Map at_b false 4096 3 backing.Zero) fin.empty ≡ fin.insert fin.empty b (Anon 3)
+  after_first : after_op (op.Map at_b false 4096 rw backing.Zero) fin.empty ≡ fin.insert fin.empty b (Anon rw)
   unfolding after_op change
   after_first = refl
 
-  second_undone : undone (is_right_within 4 [] b 2) 2 (hole_op ∷ []) (fin.insert fin.empty b (Anon 3)) ≡ Some (2, why.Hole 0x8000001000)
+  second_undone : undone (is_right_within 4 [] b 2) 2 (hole_op ∷ []) (fin.insert fin.empty b (Anon rw)) ≡ Some (2, why.Hole 0x8000001000)
   unfolding earliest
   second_undone = ap (λ (w : Option Why). option_or (option_map (λ v. (2, v)) w) None) hole
     where
-      hole : refused_op hole_op (fin.insert fin.empty b (Anon 3)) ≡ Some (why.Hole 0x8000001000)
+      hole : refused_op hole_op (fin.insert fin.empty b (Anon rw)) ≡ Some (why.Hole 0x8000001000)
       hole = simp written_out refl
 
   abbrev both : Call
-  both = call.Txn 0 at_b 8192 (op.Map at_b false 4096 3 backing.Zero ∷ hole_op ∷ [])
+  both = call.Txn 0 at_b 8192 (op.Map at_b false 4096 rw backing.Zero ∷ hole_op ∷ [])
 
   undone_reply : refusal (with_cells fin.empty) 0 both 0 ≡ Some (reply.Undone 2 (why.Hole 0x8000001000))
   undone_reply = by_pages (with_cells fin.empty) 0 both 0 (reply.Undone 2 (why.Hole 0x8000001000)) refl (simp written_out refl) refl refl
-      (ap (λ m. option_map (λ (u : ℕ × Why). reply.Undone u.0 u.1) (undone (is_right_within 4 [] b 2) 1 (op.Map at_b false 4096 3 backing.Zero ∷ hole_op ∷ []) m)) empty_again
+      (ap (λ m. option_map (λ (u : ℕ × Why). reply.Undone u.0 u.1) (undone (is_right_within 4 [] b 2) 1 (op.Map at_b false 4096 rw backing.Zero ∷ hole_op ∷ []) m)) empty_again
       ∙ ap (λ m. option_map (λ (u : ℕ × Why). reply.Undone u.0 u.1) (undone (is_right_within 4 [] b 2) 2 (hole_op ∷ []) m)) after_first
       ∙ ap (option_map (λ (u : ℕ × Why). reply.Undone u.0 u.1)) second_undone)
     where

@@ -11,10 +11,10 @@ use Rattle.corten_base.specs.declared.calls.Reply.{Reply}
 use Rattle.corten_base.specs.declared.calls.Reply.TheVariants as reply
 use Rattle.table_place.specs.Range.{within}
 use Rattle.page_map.specs.Change.{earliest}
-use Rattle.table_place.specs.Place.{pages_of, is_user_page}
+use Rattle.table_place.specs.Place.{is_page_range, pages_of, is_user_page}
 use Rattle.page_map.specs.State.{State, AddressSpace, cell_at, space_at}
 use Rattle.page_map.specs.Access.{refused_at}
-use Rattle.page_map.specs.Mapping.{after_op, is_page_range}
+use Rattle.page_map.specs.Mapping.{after_op}
 use Rattle.page_map.specs.Step.{refusal, refused_unless}
 use Rattle.page_map.specs.Effect.{state_after}
 use Rattle.page_map.proofs.Range.{get-change, inside}

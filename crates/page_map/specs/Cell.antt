@@ -5,25 +5,26 @@
 --     written      a page's bytes after bytes were stored
 use Rattle.std.specs.Prelude.{ℕ, ◌+◌, ◌-◌, ◌*◌, ◌/◌, ◌%◌, Bool, false, List, [], ◌++◌, length, take, drop, replicate, nat_eq, nat_le, slice_get, Option, Some, None}
 use Rattle.std.specs.Option.{unwrap_or}
+use Rattle.corten_base.specs.declared.permissions.Perm.{Perm}
 use Rattle.corten_base.specs.declared.numbers.Status.{Status}
 use Rattle.corten_base.specs.declared.numbers.Status.TheVariants as status
 use Rattle.page_map.specs.declared.cell.Cell.{Cell}
 use Rattle.page_map.specs.declared.cell.Cell.TheVariants.{Anon, File, Mapped, Swapped}
 
-abbrev pub can_read : ℕ → Bool
-can_read perm = nat_eq (perm % 2) 1
+abbrev pub can_read : Perm → Bool
+can_read perm = perm.read
 
-abbrev pub can_write : ℕ → Bool
-can_write perm = nat_eq (perm / 2 % 2) 1
+abbrev pub can_write : Perm → Bool
+can_write perm = perm.write
 
-abbrev pub perm_of : Cell → ℕ
+abbrev pub perm_of : Cell → Perm
 perm_of (Anon perm) = perm
 perm_of (File perm file index) = perm
 perm_of (Mapped perm frame bytes) = perm
 perm_of (Swapped perm slot bytes) = perm
 
 -- the same page with other permissions (POSIX.1 mprotect)
-abbrev pub with_perm : ℕ → Cell → Cell
+abbrev pub with_perm : Perm → Cell → Cell
 with_perm new (Anon perm) = Anon new
 with_perm new (File perm file index) = File new file index
 with_perm new (Mapped perm frame bytes) = Mapped new frame bytes

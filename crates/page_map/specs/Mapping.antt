@@ -1,5 +1,5 @@
 -- Mapping, unmapping and protecting the pages of one space.
---     is_page_range, is_mappable      the arguments that are right
+--     is_mappable      whether the arguments of a mapping are right
 --     is_right      whether an operation's arguments are
 --     refused_op, after_op      why an operation is refused;  the cells after it
 --     undone, after_ops      the first refused operation of a list;  the cells after all of them
@@ -7,6 +7,7 @@
 use Rattle.std.specs.Prelude.{ℕ, ◌+◌, ◌-◌, ◌*◌, ◌/◌, ◌%◌, ◌^◌, Bool, true, false, cond, ◌&&◌, List, [], ◌∷◌, length, nat_eq, nat_lt, nat_le, Option, Some, None, is_some, is_none}
 use Rattle.std.specs.Option.{option_map, option_or}
 use Rattle.std.specs.FinMap.{get}
+use Rattle.corten_base.specs.declared.permissions.Perm.{Perm}
 use Rattle.corten_base.specs.declared.calls.Backing.{Backing}
 use Rattle.corten_base.specs.declared.calls.Backing.TheVariants as backing
 use Rattle.corten_base.specs.declared.calls.TxnOp.{TxnOp}
@@ -17,12 +18,12 @@ use Rattle.page_map.specs.declared.cell.Cell.{Cell}
 use Rattle.page_map.specs.declared.cell.Cell.TheVariants as cell
 use Rattle.table_place.specs.Range.{lies_in}
 use Rattle.page_map.specs.Change.{change, keys_in, least}
-use Rattle.table_place.specs.Place.{is_user_range, pages_of}
+use Rattle.table_place.specs.Place.{is_page_range, pages_of}
 use Rattle.page_map.specs.Cell.{with_perm}
 use Rattle.page_map.specs.State.{AddressSpace}
 
 -- the cell of the page that stands i pages after the first of a new mapping
-abbrev pub backed : Backing → ℕ → ℕ → Cell
+abbrev pub backed : Backing → Perm → ℕ → Cell
 backed backing.Zero perm i = cell.Anon perm
 backed (backing.File file index) perm i = cell.File perm file (index + i)
 
@@ -34,10 +35,6 @@ is_backing files (backing.File file index) = nat_lt file (length files) && nat_l
 -- a length of 0 is EINVAL (POSIX.1 mmap), and so is one above half of the address space
 abbrev pub is_mappable : ℕ → List (List ℕ) → ℕ → Backing → Bool
 is_mappable levels files len what = nat_lt 0 len && nat_le len (2 ^ (9 * levels + 11)) && is_backing files what
-
--- whether a range starts at a page, is not empty, and has user pages alone (POSIX.1 munmap: EINVAL)
-abbrev pub is_page_range : ℕ → ℕ → ℕ → Bool
-is_page_range levels at len = nat_eq (at % 4096) 0 && nat_lt 0 len && is_user_range levels (at / 4096) (pages_of len)
 
 abbrev pub op_at : TxnOp → ℕ
 op_at (op.Map at fresh len perm what) = at

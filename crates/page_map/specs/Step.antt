@@ -11,10 +11,10 @@ use Rattle.corten_base.specs.declared.calls.Reply.TheVariants as reply
 use Rattle.corten_base.specs.declared.calls.TxnOp.TheVariants as op
 use Rattle.corten_base.specs.declared.calls.Why.{Why}
 use Rattle.corten_base.specs.declared.calls.Why.TheVariants as why
-use Rattle.table_place.specs.Place.{pages_of}
+use Rattle.table_place.specs.Place.{is_page_range, pages_of}
 use Rattle.page_map.specs.State.{State, levels, linked, is_present, space_at, unused_frames, unused_slots}
 use Rattle.page_map.specs.Access.{outside_user_pages, refused_access}
-use Rattle.page_map.specs.Mapping.{is_mappable, is_page_range, is_right, is_right_within, refused_op, undone, gap}
+use Rattle.page_map.specs.Mapping.{is_mappable, is_right, is_right_within, refused_op, undone, gap}
 use Rattle.page_map.specs.Spaces.{least_absent}
 use Rattle.page_map.specs.Tables.{need}
 use Rattle.page_map.specs.Effect.{space_of, cells_of, access_of, wanting_frames_of, wanting_slots_of, wanted_tables, state_after, answer}

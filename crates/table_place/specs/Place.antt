@@ -2,6 +2,7 @@
 -- the offset (Intel SDM, Volume 3A, 4-level and 5-level paging); a page has 4,096 bytes and a table 512 entries.
 --     is_user_page, is_user_range      whether a page is a user page;  whether all pages of a range are
 --     pages_of      the number of pages that a length in bytes covers
+--     is_page_range      whether a length in bytes from an address on is a range of user pages
 --     root, directory, place_of      the place of a space's root table;  of the table of the roots;  of the table of a level above a page
 --     is_place      whether a level and a prefix are those of a table
 --     entry_place, parent      the place of the table to which an entry leads;  of the table whose entry leads to a table
@@ -26,6 +27,10 @@ is_user_page levels page = is_user_range levels page 1
 -- lengths are rounded up to whole pages (POSIX.1 mmap)
 abbrev pub pages_of : ℕ → ℕ
 pages_of bytes = (bytes + 4095) / 4096
+
+-- whether a range starts at a page, is not empty, and has user pages alone (POSIX.1 munmap: else EINVAL)
+abbrev pub is_page_range : ℕ → ℕ → ℕ → Bool
+is_page_range levels at len = nat_eq (at % 4096) 0 && nat_lt 0 len && is_user_range levels (at / 4096) (pages_of len)
 
 -- by space, then level, then prefix: the order that Rust derives
 abbrev pub place_cmp : Place → Place → Ordering
