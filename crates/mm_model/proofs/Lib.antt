@@ -4,3 +4,5 @@ pub mod Least
 pub mod Free
 pub mod Fills
 pub mod Gaps
+pub mod Bits
+pub mod Tally

@@ -1,3 +1,4 @@
+pub mod Owners
 pub mod Plain
 pub mod Lending
 pub mod Backing
