@@ -6,3 +6,5 @@ pub mod Fills
 pub mod Gaps
 pub mod Bits
 pub mod Tally
+pub mod Counts
+pub mod Sound
