@@ -1,6 +1,12 @@
-pub mod Borrowed
+pub mod Variants
 pub mod Sets
+pub mod Least
+pub mod Free
+pub mod Fills
+pub mod Gaps
 pub mod Bits
 pub mod Tally
 pub mod Reach
 pub mod Plans
+pub mod Counts
+pub mod Sound

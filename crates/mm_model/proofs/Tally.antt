@@ -17,7 +17,7 @@ counted counts n h = go (cases_lt n (length counts))
     go (inr l) = absurd (omega (arith, h, get_or_past counts n 0 l))
 
 -- the same answers at the numbers of the range
-same_filter : (p q : ℕ → Bool) (lo len : ℕ) → ((m : ℕ) → lo ≤ m → m < lo + len → p m ≡ q m) → filter p (range_with_len lo len) ≡ filter q (range_with_len lo len)
+pub same_filter : (p q : ℕ → Bool) (lo len : ℕ) → ((m : ℕ) → lo ≤ m → m < lo + len → p m ≡ q m) → filter p (range_with_len lo len) ≡ filter q (range_with_len lo len)
 same_filter p q lo zero h = refl
 same_filter p q lo (suc len) h =
     (λ i. cond (h lo (omega arith) (omega arith) i) (lo ∷ same_filter p q (lo + 1) len (λ m a b. h m (omega arith) (omega arith)) i) (same_filter p q (lo + 1) len (λ m a b. h m (omega arith) (omega arith)) i))

@@ -1,5 +1,6 @@
+pub mod Owners
 pub mod Plain
 pub mod Lending
-pub mod Owners
 pub mod Reach
 pub mod Wants
+pub mod Backing

@@ -1,9 +1,18 @@
 //! The plain machine.
+ghost use Rattle.std.specs.Prelude.{◌≡◌, [], ◌+◌, ◌≤◌, IfOk};
+ghost use Rattle.std.specs.Option.{option_map};
+ghost use Rattle.std.specs.FinMap as map;
+ghost use Rattle.page_map.specs.Cell.{status_of};
+ghost use Rattle.page_map.specs.State.{IsWithinLimits, start, linked, accounts};
+
 use crate::owners::Owners;
+use crate::space::AddressSpace;
 use crate::spaces::Spaces;
 use crate::tables::Tables;
-use corten_base::Limits;
+use corten_base::{Accounts, Limits, SpaceId, Status};
+use std::alloc::{AllocError, Global};
 use std::marker::Model;
+use table_place::Place;
 
 /// The plain machine: for each space that is present a finite map from pages to cells, and the page tables
 /// above them.
@@ -29,4 +38,59 @@ impl Model for Plain {
     ghost view = { λ a. record { spaces = a.spaces; tables = a.tables; limits = a.limits; files = [] } };
 
     ghost invariant = { λ a. IsSound (record { spaces = a.spaces; tables = a.tables; limits = a.limits; files = [] }) a.frames a.slots };
+}
+
+/// The page table at the top of space 0.
+const FIRST_ROOT: Place = Place {
+    space: 0,
+    level: 4,
+    prefix: 0,
+};
+
+impl Plain {
+    /// The machine in which space 0 is present and empty.
+    pub fn new(alloc: Global, limits: Limits) -> Result<Plain, AllocError>
+        requires { IsWithinLimits limits }
+        ensures { IfOk result (λ plain. plain ≡ start limits []) }
+    {
+        let mut spaces = Spaces::new(alloc);
+        spaces.insert(0, AddressSpace::new(alloc))?;
+        let mut tables = Tables::new(alloc);
+        tables.insert(FIRST_ROOT)?;
+        Ok(Plain {
+            spaces,
+            tables,
+            limits,
+            frames: Owners::new(alloc, limits.frames)?,
+            slots: Owners::new(alloc, limits.swap)?,
+        })
+    }
+
+    /// What stands at a page of a space; `None` where the space is absent.
+    pub fn status(&self, space: SpaceId, page: u64) -> Option<Status>
+        ensures { result ≡ option_map (λ cells. status_of (map.get cells page)) (map.get self.now.spaces space) }
+    {
+        let cells = self.spaces.get(space.number())?;
+        Some(cells.status(page))
+    }
+
+    /// How many numbers are in use, where so many page tables are in limbo.
+    pub fn accounts(&self, limbo: u32) -> Accounts
+        requires { linked self.now + limbo ≤ self.now.limits.tables }
+        ensures { result ≡ accounts self.now limbo }
+    {
+        let frames_free = self.frames.free();
+        let swap_free = self.slots.free();
+        Accounts {
+            frames: self.limits.frames,
+            frames_free,
+            frames_mapped: self.limits.frames - frames_free,
+            swap: self.limits.swap,
+            swap_free,
+            swap_used: self.limits.swap - swap_free,
+            tables: self.limits.tables,
+            linked: self.tables.len() as u32,
+            limbo,
+        }
+    }
 }

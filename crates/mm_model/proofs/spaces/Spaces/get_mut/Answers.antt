@@ -1,7 +1,7 @@
 use Rattle.std.proofs.Common.{ap, sym, refl, ◌∙◌}
 use Rattle.std.specs.FinMap as map
 use Rattle.page_map.proofs.Entries.{get_entries, written_entries}
-use Rattle.mm_model.proofs.Borrowed.{on_some}
+use Rattle.mm_model.proofs.Variants.{on_some}
 use Rattle.mm_model.proofs.spaces.Spaces.get_mut.Goals as goal
 
 pub returns : goal.returns

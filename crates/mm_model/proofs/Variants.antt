@@ -1,6 +1,6 @@
--- A fact on a borrowed value.
+-- Facts at one variant of a value.
 use Rattle.std.proofs.Common.{◌≡◌, refl, subst}
-use Rattle.std.specs.Prelude.{Option, Some, None, IsSome}
+use Rattle.std.specs.Prelude.{Option, Some, None, IsSome, Result, Ok, Err, OnErr}
 use Rattle.std.specs.Option.{OnSome, option_copied_mut}
 use Rattle.std.specs.Borrow.{MutBor}
 
@@ -8,3 +8,8 @@ use Rattle.std.specs.Borrow.{MutBor}
 pub on_some : {A P : Type 0} (r : Option (MutBor A)) (o : Option A) → option_copied_mut r ≡ o → (IsSome o → P) → OnSome r P
 on_some None o e h = tt
 on_some (Some x) o e h = h (subst (λ q. IsSome q) e refl)
+
+-- a fact that holds, at an error
+pub on_err : {A E P : Type 0} (r : Result A E) → P → OnErr r P
+on_err (Ok x) h = tt
+on_err (Err e) h = h
