@@ -10,3 +10,5 @@ pub mod Reach
 pub mod Plans
 pub mod Counts
 pub mod Sound
+pub mod Moves
+pub mod Brought

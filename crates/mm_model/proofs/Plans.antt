@@ -113,10 +113,10 @@ module _ (files : List (List ℕ)) (cells : AddressSpace) (owners : ℕ → ℕ)
 
       go : ((last_page a ≡ first_page a) × (page_count a ≡ 1)) ⊎ ((last_page a ≡ first_page a + 1) × (page_count a ≡ 2)) → refused_access files cells a ≡ option_or (at (first_page a)) (beyond a None (at (last_page a)))
       go (inl e) = ap (λ n. earliest (first_page a) n at) e.1 ∙ earliest_one (first_page a) at ∙ or_none (at (first_page a))
-          ∙ ap (option_or (at (first_page a))) (sym (cond-true _ _ _ (eq-eqb _ _ e.0)))
+          ∙ ap (option_or (at (first_page a))) (sym (cond-true _ None (at (last_page a)) (eq-eqb (last_page a) (first_page a) e.0)))
       go (inr e) = ap (λ n. earliest (first_page a) n at) e.1 ∙ earliest_two (first_page a) at
           ∙ ap (λ page. option_or (at (first_page a)) (at page)) (sym e.0)
-          ∙ ap (option_or (at (first_page a))) (sym (cond-false _ _ _ (ne_eqb _ _ (λ f. omega (arith, e.0, f)))))
+          ∙ ap (option_or (at (first_page a))) (sym (cond-false _ None (at (last_page a)) (ne_eqb (last_page a) (first_page a) (λ f. omega (arith, e.0, f)))))
 
   -- the pages that want a frame, from what the two pages want
   pub wanting_is : (near far : Want) → option_map (want_of files owners a.write) (get cells (first_page a)) ≡ Some near →
@@ -130,12 +130,12 @@ module _ (files : List (List ℕ)) (cells : AddressSpace) (owners : ℕ → ℕ)
           ap (λ k. keys_in cells (first_page a) k (wants owners a.write)) e.1 ∙ keys_in_one (wants owners a.write) cells (first_page a)
           ∙ chosen_wants files owners a.write (first_page a) (get cells (first_page a)) near n
           ∙ sym (append-nil (cond (is_wanting near) (first_page a ∷ []) []))
-          ∙ ap (λ w. cond (is_wanting near) (first_page a ∷ []) [] ++ cond (is_wanting w) (last_page a ∷ []) []) (same_some (sym (cond-true _ (Some Nothing) _ (eq-eqb _ _ e.0)) ∙ f))
+          ∙ ap (λ w. cond (is_wanting near) (first_page a ∷ []) [] ++ cond (is_wanting w) (last_page a ∷ []) []) (same_some (sym (cond-true _ (Some Nothing) (option_map (want_of files owners a.write) (get cells (last_page a))) (eq-eqb (last_page a) (first_page a) e.0)) ∙ f))
       go (inr e) =
           ap (λ k. keys_in cells (first_page a) k (wants owners a.write)) e.1 ∙ keys_in_two (wants owners a.write) cells (first_page a)
           ∙ (λ i. chosen_wants files owners a.write (first_page a) (get cells (first_page a)) near n i
               ++ (ap (λ page. chosen (wants owners a.write) page (get cells page)) (sym e.0)
-                  ∙ chosen_wants files owners a.write (last_page a) (get cells (last_page a)) far (sym (cond-false _ (Some Nothing) _ (ne_eqb _ _ (λ g. omega (arith, e.0, g)))) ∙ f)) i)
+                  ∙ chosen_wants files owners a.write (last_page a) (get cells (last_page a)) far (sym (cond-false _ (Some Nothing) (option_map (want_of files owners a.write) (get cells (last_page a))) (ne_eqb (last_page a) (first_page a) (λ g. omega (arith, e.0, g)))) ∙ f)) i)
 
   pub count_wanting : (near far : Want) → option_map (want_of files owners a.write) (get cells (first_page a)) ≡ Some near →
       beyond a (Some Nothing) (option_map (want_of files owners a.write) (get cells (last_page a))) ≡ Some far →
@@ -154,7 +154,7 @@ module _ (files : List (List ℕ)) (cells : AddressSpace) (frames : List ℕ) (a
   refused_by_pages r e = ap (λ o. option_or o (lack (length (unused_of frames)) (length (wanting (slice_index frames) cells a)))) e
 
   pub refused_by_near : (r : Reply) → refused_at files a.write (first_page a) (get cells (first_page a)) ≡ Some r → refused_in files cells frames a ≡ Some r
-  refused_by_near r e = refused_by_pages r (refused_either files cells (slice_index frames) a some few ∙ ap (λ o. option_or o _) e)
+  refused_by_near r e = refused_by_pages r (refused_either files cells (slice_index frames) a some few ∙ ap (λ o. option_or o (beyond a None (refused_at files a.write (last_page a) (get cells (last_page a))))) e)
 
   pub refused_by_far : (r : Reply) → refused_at files a.write (first_page a) (get cells (first_page a)) ≡ None →
       beyond a None (refused_at files a.write (last_page a) (get cells (last_page a))) ≡ Some r → refused_in files cells frames a ≡ Some r

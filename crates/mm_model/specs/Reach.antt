@@ -3,11 +3,13 @@
 --     last_page, beyond, IsUserAccess      its last page;  whether that is another than the first;  whether it has 1 to 4,096 bytes, in user pages alone
 --     wants, wanting      whether a page wants a frame, by the counts of owners;  the pages of an access that do
 --     lack, refused_in      too few unused frames;  the reply of the first that refuses: the pages in ascending order, then the unused frames
---     given, overwritten      a page on the frame that it got;  a page after bytes were written at a place in it
+--     given, brought      a page on the frame that it got;  the cells after the pages of an access got theirs
+--     overwritten      a page after bytes were written at a place in it
 --     carried, one_at      how many cells carry a number;  1 for the number that is there
---     IsCounted, Follows      counts of no fewer owners than the cells of one space;  counts that have changed as cells have
+--     IsCounted      counts of no fewer owners than the cells of one space
+--     Leaves, Follows      counts after a number was left, and after cells changed
 use Rattle.std.specs.Prelude.{◌≡◌, ℕ, ◌+◌, ◌-◌, ◌/◌, ◌^◌, ◌<◌, ◌≤◌, Bool, true, false, cond, not, ◌&&◌, List, [], length, slice_index, nat_eq, nat_lt, Option, Some, None}
-use Rattle.std.specs.Option.{unwrap_or, option_or}
+use Rattle.std.specs.Option.{unwrap_or, option_map, option_or}
 use Rattle.std.specs.List.{count_by}
 use Rattle.std.specs.FinMap as map
 use Rattle.corten_base.specs.declared.calls.Reply.{Reply}
@@ -15,9 +17,10 @@ use Rattle.corten_base.specs.declared.calls.Reply.TheVariants as reply
 use Rattle.corten_base.specs.Bytes.{bytes_after_write}
 use Rattle.page_map.specs.declared.cell.Cell.{Cell}
 use Rattle.page_map.specs.declared.cell.Cell.TheVariants.{Anon, File, Mapped, Swapped}
-use Rattle.page_map.specs.Change.{keys_in}
+use Rattle.page_map.specs.Change.{keys_in, change}
 use Rattle.page_map.specs.Cell.{perm_of, frame_of, contents}
 use Rattle.page_map.specs.State.{AddressSpace, carries}
+use Rattle.page_map.specs.Takes.{Grant, granted}
 use Rattle.page_map.specs.Access.{Access, first_page, page_count, refused_access}
 use Rattle.mm_model.specs.Owners.{unused_of}
 
@@ -59,6 +62,9 @@ refused_in files cells frames a =
 abbrev pub given : List (List ℕ) → Option ℕ → Cell → Cell
 given files frame cell = Mapped (perm_of cell) (unwrap_or frame (unwrap_or (frame_of cell) 0)) (contents files cell)
 
+abbrev pub brought : List (List ℕ) → Grant → Access → AddressSpace → AddressSpace
+brought files grants a cells = change cells (first_page a) (page_count a) (λ page. option_map (given files (granted grants page)))
+
 abbrev pub overwritten : ℕ → List ℕ → Cell → Cell
 overwritten place written (Mapped perm frame bytes) = Mapped perm frame (bytes_after_write bytes place written)
 overwritten place written (Anon perm) = Anon perm
@@ -75,6 +81,12 @@ one_at (Some m) n = cond (nat_eq m n) 1 0
 pub record IsCounted (number_of : Cell → Option ℕ) (counts : List ℕ) (cells : AddressSpace) : Type 0 where
   pub each : (n : ℕ) → carried number_of n cells ≤ slice_index counts n
 
-pub record Follows (number_of : Cell → Option ℕ) (old new : List ℕ) (before after : AddressSpace) : Type 0 where
+-- the counts after a number was left
+pub record Leaves (left : Option ℕ) (old new : List ℕ) : Type 0 where
   pub numbers : length new ≡ length old
-  pub counts : (n : ℕ) → slice_index new n + carried number_of n before ≡ slice_index old n + carried number_of n after
+  pub counts : (n : ℕ) → slice_index new n + one_at left n ≡ slice_index old n
+
+-- the counts after cells changed, where a number was taken before
+pub record Follows (taken : Option ℕ) (number_of : Cell → Option ℕ) (old new : List ℕ) (before after : AddressSpace) : Type 0 where
+  pub numbers : length new ≡ length old
+  pub counts : (n : ℕ) → slice_index new n + carried number_of n before + one_at taken n ≡ slice_index old n + carried number_of n after

@@ -1,14 +1,16 @@
 //! Loads, stores and page faults on the cells of one space.
-ghost use Rattle.std.specs.Prelude.{◌≡◌, ℕ, ◌+◌, ◌/◌, ◌<◌, ◌≤◌, ◌^◌, cond, true, false, List, [], ◌∷◌, length, slice_index, nat_eq, nat_lt, IfOk, IfErr, IfSome, IfNone, MatchResult, is_some, Some, None};
+ghost use Rattle.std.specs.Prelude.{◌≡◌, ℕ, ◌+◌, ◌/◌, ◌<◌, ◌≤◌, ◌^◌, cond, true, false, List, [], ◌∷◌, length, slice_index, nat_eq, nat_lt, IfOk, IfErr, IfSome, IfNone, MatchResult, is_some, IsSome, Some, None};
 ghost use Rattle.std.specs.Option.{option_map, option_and_then, option_copied};
 ghost use Rattle.std.specs.FinMap as map;
+ghost use Rattle.page_map.specs.Change.{change};
 ghost use Rattle.page_map.specs.Cell.{perm_of, frame_of, slot_of, is_past_end};
 ghost use Rattle.table_place.specs.Place.{is_user_page};
+ghost use Rattle.page_map.specs.Takes.{grant};
 ghost use Rattle.page_map.specs.Access.{first_page, outside_user_pages, allows, refused_at};
 ghost use Rattle.mm_model.specs.Owners.{unused_of};
-ghost use Rattle.mm_model.specs.Reach.{reaching, last_page, beyond, refused_in, one_at, IsCounted};
+ghost use Rattle.mm_model.specs.Reach.{reaching, last_page, IsUserAccess, beyond, wanting, refused_in, given, brought, one_at, IsCounted, Leaves, Follows};
 ghost use Rattle.mm_model.specs.declared.access.Want.TheVariants.{Nothing};
-ghost use Rattle.mm_model.specs.Wants.{want_of, is_wanting, IsPlan, refusal_of};
+ghost use Rattle.mm_model.specs.Wants.{want_of, is_wanting, Suits, IsPlan, refusal_of};
 
 use crate::owners::Owners;
 use crate::space::AddressSpace;
@@ -16,6 +18,7 @@ use corten_base::{PageBuf, Perm, Reply};
 use page_map::Cell;
 use std::alloc::{AllocError, Global};
 use std::marker::Model;
+use std::mem;
 
 /// Bytes of user pages that are read or written: 1 to 4,096 of them, from an address on.
 #[derive(Clone, Copy)]
@@ -69,6 +72,7 @@ impl Access {
     fn first(self) -> u64
         ensures value { result ≡ first_page self }
         ensures small { result < 2 ^ 35 }
+        ensures user { IsUserAccess self }
     {
         self.at / 4096
     }
@@ -184,6 +188,36 @@ fn want_of(alloc: Global, frames: &Owners, write: bool, cell: &Cell) -> Result<W
     }
 }
 
+/// The same page on the frame that it got. It leaves the number that it had.
+fn moved(cell: Cell, frame: u32, want: Want, frames: &mut Owners, slots: &mut Owners) -> Cell
+    requires suits { Suits [] cell want }
+    requires wanting { is_wanting want ≡ true }
+    requires frame { IfSome (frame_of cell) (λ n. 0 < slice_index frames.old n) }
+    requires slot { IfSome (slot_of cell) (λ n. 0 < slice_index slots.old n) }
+    ensures cell { result ≡ given [] (Some frame) cell }
+    ensures frames { Leaves (frame_of cell) frames.old frames.new }
+    ensures slots { Leaves (slot_of cell) slots.old slots.new }
+{
+    match cell {
+        Cell::Mapped {
+            perm,
+            frame: own,
+            bytes,
+        } => {
+            frames.drop_one(own);
+            Cell::Mapped { perm, frame, bytes }
+        }
+        Cell::Swapped { perm, slot, bytes } => {
+            slots.drop_one(slot);
+            Cell::Mapped { perm, frame, bytes }
+        }
+        Cell::Anon(perm) | Cell::File { perm, .. } => match want {
+            Want::Body(bytes) => Cell::Mapped { perm, frame, bytes },
+            Want::Nothing | Want::Frame => unreachable!(),
+        },
+    }
+}
+
 impl AddressSpace {
     /// What a page wants that an access is made to, or why it is not made.
     fn look(&self, alloc: Global, frames: &Owners, write: bool, page: u64) -> Result<Want, Stop>
@@ -235,5 +269,57 @@ impl AddressSpace {
             return Err(Stop::Refused(Reply::NoFrames { free, need }));
         }
         Ok(Plan { access, near, far })
+    }
+
+    /// Moves a page to the frame that it got.
+    fn move_to(&mut self, page: u64, frame: u32, want: Want, frames: &mut Owners, slots: &mut Owners)
+        requires there { IsSome (map.get self.old page) }
+        requires suits { IfSome (map.get self.old page) (λ cell. Suits [] cell want) }
+        requires wanting { is_wanting want ≡ true }
+        requires frames { IsCounted frame_of frames.old self.old }
+        requires slots { IsCounted slot_of slots.old self.old }
+        ensures cells { self.new ≡ change self.old page 1 (λ _. option_map (given [] (Some frame))) }
+        ensures frames { Follows (Some frame) frame_of frames.old frames.new self.old self.new }
+        ensures slots { Follows None slot_of slots.old slots.new self.old self.new }
+    {
+        if let Some(cell) = self.get_mut(page) {
+            let perm = permissions(cell);
+            let old = mem::replace(cell, Cell::Anon(perm));
+            *cell = moved(old, frame, want, frames, slots);
+        }
+    }
+
+    /// Moves a page to the frame that it got, if it got one.
+    fn settle(&mut self, page: u64, frame: Option<u32>, want: Want, frames: &mut Owners, slots: &mut Owners)
+        requires there { IsSome (map.get self.old page) }
+        requires suits { IfSome (map.get self.old page) (λ cell. Suits [] cell want) }
+        requires taken { is_some frame ≡ is_wanting want }
+        requires frames { IsCounted frame_of frames.old self.old }
+        requires slots { IsCounted slot_of slots.old self.old }
+        ensures cells { self.new ≡ change self.old page 1 (λ _. option_map (given [] frame)) }
+        ensures frames { Follows frame frame_of frames.old frames.new self.old self.new }
+        ensures slots { Follows None slot_of slots.old slots.new self.old self.new }
+    {
+        if let Some(frame) = frame {
+            self.move_to(page, frame, want, frames, slots);
+        }
+    }
+
+    /// Gives each page of a plan the frame that it wants.
+    pub fn bring_in(&mut self, plan: Plan, frames: &mut Owners, slots: &mut Owners)
+        requires planned { IsPlan [] self.old (slice_index frames.old) plan }
+        requires enough { length (wanting (slice_index frames.old) self.old plan.access) ≤ length (unused_of frames.old) }
+        requires frames { IsCounted frame_of frames.old self.old }
+        requires slots { IsCounted slot_of slots.old self.old }
+        ensures cells { self.new ≡ brought [] (grant (wanting (slice_index frames.old) self.old plan.access) (unused_of frames.old)) plan.access self.old }
+        ensures frames { Follows None frame_of frames.old frames.new self.old self.new }
+        ensures slots { Follows None slot_of slots.old slots.new self.old self.new }
+    {
+        let Plan { access, near, far } = plan;
+        let (first, last) = (access.first(), access.last());
+        let near_frame = near.take(frames);
+        let far_frame = far.take(frames);
+        self.settle(first, near_frame, near, frames, slots);
+        self.settle(last, far_frame, far, frames, slots);
     }
 }
