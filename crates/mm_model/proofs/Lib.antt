@@ -12,3 +12,4 @@ pub mod Counts
 pub mod Sound
 pub mod Moves
 pub mod Brought
+pub mod Stores

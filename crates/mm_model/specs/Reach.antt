@@ -4,11 +4,13 @@
 --     wants, wanting      whether a page wants a frame, by the counts of owners;  the pages of an access that do
 --     lack, refused_in      too few unused frames;  the reply of the first that refuses: the pages in ascending order, then the unused frames
 --     given, brought      a page on the frame that it got;  the cells after the pages of an access got theirs
---     overwritten      a page after bytes were written at a place in it
+--     overwritten, stored_at      a page after bytes were written at a place in it, and after an access stored some
+--     bytes_of, IsResident      the bytes of a page with a frame;  whether all pages of an access have one
 --     carried, one_at      how many cells carry a number;  1 for the number that is there
 --     IsCounted      counts of no fewer owners than the cells of one space
 --     Leaves, Follows      counts after a number was left, and after cells changed
-use Rattle.std.specs.Prelude.{◌≡◌, ℕ, ◌+◌, ◌-◌, ◌/◌, ◌^◌, ◌<◌, ◌≤◌, Bool, true, false, cond, not, ◌&&◌, List, [], length, slice_index, nat_eq, nat_lt, Option, Some, None}
+--     Makes, Keeps      what an access changes that nothing refuses;  that nothing has changed
+use Rattle.std.specs.Prelude.{◌≡◌, ℕ, ◌+◌, ◌-◌, ◌*◌, ◌/◌, ◌^◌, ◌<◌, ◌≤◌, Bool, true, false, cond, not, ◌&&◌, List, [], length, take, drop, slice_index, nat_eq, nat_lt, Option, Some, None}
 use Rattle.std.specs.Option.{unwrap_or, option_map, option_or}
 use Rattle.std.specs.List.{count_by}
 use Rattle.std.specs.FinMap as map
@@ -17,11 +19,12 @@ use Rattle.corten_base.specs.declared.calls.Reply.TheVariants as reply
 use Rattle.corten_base.specs.Bytes.{bytes_after_write}
 use Rattle.page_map.specs.declared.cell.Cell.{Cell}
 use Rattle.page_map.specs.declared.cell.Cell.TheVariants.{Anon, File, Mapped, Swapped}
+use Rattle.table_place.specs.Range.{within}
 use Rattle.page_map.specs.Change.{keys_in, change}
-use Rattle.page_map.specs.Cell.{perm_of, frame_of, contents}
+use Rattle.page_map.specs.Cell.{perm_of, frame_of, slot_of, contents}
 use Rattle.page_map.specs.State.{AddressSpace, carries}
-use Rattle.page_map.specs.Takes.{Grant, granted}
-use Rattle.page_map.specs.Access.{Access, first_page, page_count, refused_access}
+use Rattle.page_map.specs.Takes.{Grant, grant, granted}
+use Rattle.page_map.specs.Access.{Access, first_page, page_count, refused_access, after_access}
 use Rattle.mm_model.specs.Owners.{unused_of}
 
 abbrev pub reaching : ℕ → ℕ → Bool → Access
@@ -71,6 +74,21 @@ overwritten place written (Anon perm) = Anon perm
 overwritten place written (File perm file index) = File perm file index
 overwritten place written (Swapped perm slot bytes) = Swapped perm slot bytes
 
+-- what falls into a page of bytes that are stored from an address on
+abbrev pub stored_at : ℕ → List ℕ → ℕ → Cell → Cell
+stored_at at bytes page = overwritten (at - 4096 * page) (take (4096 - (at - 4096 * page)) (drop (4096 * page - at) bytes))
+
+-- the bytes of a page that has a frame, and none of another page
+abbrev pub bytes_of : Option Cell → List ℕ
+bytes_of None = []
+bytes_of (Some (Mapped perm frame bytes)) = bytes
+bytes_of (Some (Anon perm)) = []
+bytes_of (Some (File perm file index)) = []
+bytes_of (Some (Swapped perm slot bytes)) = []
+
+pub record IsResident (cells : AddressSpace) (a : Access) : Type 0 where
+  pub pages : (q : ℕ) → within (first_page a) (page_count a) q ≡ true → length (bytes_of (map.get cells q)) ≡ 4096
+
 abbrev pub carried : (Cell → Option ℕ) → ℕ → AddressSpace → ℕ
 carried number_of n cells = count_by (carries number_of n) (map.values cells)
 
@@ -90,3 +108,16 @@ pub record Leaves (left : Option ℕ) (old new : List ℕ) : Type 0 where
 pub record Follows (taken : Option ℕ) (number_of : Cell → Option ℕ) (old new : List ℕ) (before after : AddressSpace) : Type 0 where
   pub numbers : length new ≡ length old
   pub counts : (n : ℕ) → slice_index new n + carried number_of n before + one_at taken n ≡ slice_index old n + carried number_of n after
+
+-- an access that nothing refuses
+pub record Makes (a : Access) (cells cells' : AddressSpace) (frames frames' slots slots' : List ℕ) : Type 0 where
+  pub accepted : refused_in [] cells frames a ≡ None
+  pub cells_are : cells' ≡ after_access [] (grant (wanting (slice_index frames) cells a) (unused_of frames)) a cells
+  pub frames_follow : Follows None frame_of frames frames' cells cells'
+  pub slots_follow : Follows None slot_of slots slots' cells cells'
+
+-- an access that is not made
+pub record Keeps (cells cells' : AddressSpace) (frames frames' slots slots' : List ℕ) : Type 0 where
+  pub same_cells : cells' ≡ cells
+  pub same_frames : frames' ≡ frames
+  pub same_slots : slots' ≡ slots

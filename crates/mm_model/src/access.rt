@@ -1,20 +1,20 @@
 //! Loads, stores and page faults on the cells of one space.
-ghost use Rattle.std.specs.Prelude.{◌≡◌, ℕ, ◌+◌, ◌/◌, ◌<◌, ◌≤◌, ◌^◌, cond, true, false, List, [], ◌∷◌, length, slice_index, nat_eq, nat_lt, IfOk, IfErr, IfSome, IfNone, MatchResult, is_some, IsSome, Some, None};
+ghost use Rattle.std.specs.Prelude.{◌≡◌, ℕ, ◌+◌, ◌/◌, ◌%◌, ◌<◌, ◌≤◌, ◌^◌, cond, true, false, List, [], ◌∷◌, length, slice_index, nat_eq, nat_lt, IfOk, IfErr, IfSome, IfNone, MatchResult, is_some, IsSome, Some, None};
 ghost use Rattle.std.specs.Option.{option_map, option_and_then, option_copied};
 ghost use Rattle.std.specs.FinMap as map;
 ghost use Rattle.page_map.specs.Change.{change};
 ghost use Rattle.page_map.specs.Cell.{perm_of, frame_of, slot_of, is_past_end};
 ghost use Rattle.table_place.specs.Place.{is_user_page};
 ghost use Rattle.page_map.specs.Takes.{grant};
-ghost use Rattle.page_map.specs.Access.{first_page, outside_user_pages, allows, refused_at};
+ghost use Rattle.page_map.specs.Access.{first_page, page_count, outside_user_pages, loaded, allows, refused_at};
 ghost use Rattle.mm_model.specs.Owners.{unused_of};
-ghost use Rattle.mm_model.specs.Reach.{reaching, last_page, IsUserAccess, beyond, wanting, refused_in, given, brought, one_at, IsCounted, Leaves, Follows};
+ghost use Rattle.mm_model.specs.Reach.{reaching, last_page, IsUserAccess, beyond, wanting, refused_in, given, brought, overwritten, stored_at, bytes_of, IsResident, one_at, IsCounted, Leaves, Follows};
 ghost use Rattle.mm_model.specs.declared.access.Want.TheVariants.{Nothing};
 ghost use Rattle.mm_model.specs.Wants.{want_of, is_wanting, Suits, IsPlan, refusal_of};
 
 use crate::owners::Owners;
 use crate::space::AddressSpace;
-use corten_base::{PageBuf, Perm, Reply};
+use corten_base::{ByteList, PAGE_BYTES, PageBuf, Perm, Reply};
 use page_map::Cell;
 use std::alloc::{AllocError, Global};
 use std::marker::Model;
@@ -75,6 +75,14 @@ impl Access {
         ensures user { IsUserAccess self }
     {
         self.at / 4096
+    }
+
+    /// The place of its first byte in the first page.
+    fn start(self) -> u32
+        ensures value { result ≡ self.at % 4096 }
+        ensures small { result < 4096 }
+    {
+        (self.at % 4096) as u32
     }
 
     /// The last page that it touches: the first, or the next.
@@ -218,6 +226,16 @@ fn moved(cell: Cell, frame: u32, want: Want, frames: &mut Owners, slots: &mut Ow
     }
 }
 
+/// Writes bytes over those of a page, from a place on, if it has a frame.
+fn overwrite(cell: &mut Cell, place: u32, bytes: &[u8])
+    requires { place + length bytes.now ≤ 4096 }
+    ensures { cell.new ≡ overwritten place bytes.now cell.old }
+{
+    if let Cell::Mapped { bytes: body, .. } = cell {
+        body.write_at(place, bytes);
+    }
+}
+
 impl AddressSpace {
     /// What a page wants that an access is made to, or why it is not made.
     fn look(&self, alloc: Global, frames: &Owners, write: bool, page: u64) -> Result<Want, Stop>
@@ -321,5 +339,53 @@ impl AddressSpace {
         let far_frame = far.take(frames);
         self.settle(first, near_frame, near, frames, slots);
         self.settle(last, far_frame, far, frames, slots);
+    }
+
+    /// Writes bytes over those of a page, from a place on, if it has a frame.
+    fn write_page(&mut self, page: u64, place: u32, bytes: &[u8])
+        requires { place + length bytes.now ≤ 4096 }
+        ensures { self.new ≡ change self.old page 1 (λ _. option_map (overwritten place bytes.now)) }
+    {
+        if let Some(cell) = self.get_mut(page) {
+            overwrite(cell, place, bytes);
+        }
+    }
+
+    /// Writes the bytes of an access to those of its pages that have frames.
+    fn write(&mut self, access: Access, bytes: &[u8])
+        requires { length bytes.now ≡ access.len }
+        ensures { self.new ≡ change self.old (first_page access) (page_count access) (λ page. option_map (stored_at access.at bytes.now page)) }
+    {
+        let start = access.start();
+        let (near, far) = bytes.split_at(bytes.len().min(PAGE_BYTES - start as usize));
+        self.write_page(access.first(), start, near);
+        if !far.is_empty() {
+            self.write_page(access.last(), 0, far);
+        }
+    }
+
+    /// The bytes of a page that has a frame, and none of another page.
+    fn bytes(&self, page: u64) -> &[u8]
+        ensures { result.now ≡ bytes_of (map.get self.now page) }
+    {
+        match self.get(page) {
+            Some(Cell::Mapped { bytes, .. }) => bytes.bytes(),
+            _ => &[],
+        }
+    }
+
+    /// Reads the bytes of an access, whose pages have frames.
+    fn read(&self, access: Access, out: &mut ByteList)
+        requires len { length out.old ≡ access.len }
+        requires resident { IsResident self.now access }
+        ensures { out.new ≡ loaded [] self.now access }
+    {
+        let start = access.start() as usize;
+        let len = out.bytes().len();
+        let near = len.min(PAGE_BYTES - start);
+        out.write_at(0, &self.bytes(access.first())[start..start + near]);
+        if near < len {
+            out.write_at(near as u32, &self.bytes(access.last())[..len - near]);
+        }
     }
 }
