@@ -47,6 +47,13 @@ module _ (files : List (List ℕ)) (owners : ℕ → ℕ) (write : Bool) where
   wanted_suits None want e = tt
   wanted_suits (Some cell) want e = subst (Suits files cell) (same_some e) (want_suits files owners write cell)
 
+-- the last page has a cell, where it is not the first
+pub last_there : (files : List (List ℕ)) (cells : AddressSpace) (owners : ℕ → ℕ) (a : Access) (far : Want) → beyond a (Some Nothing) (option_map (want_of files owners a.write) (get cells (last_page a))) ≡ Some far →
+    (last_page a ≡ first_page a → ⊥) → IsSome (get cells (last_page a))
+last_there files cells owners a far e f =
+    wanted_there files owners a.write (get cells (last_page a)) far
+    (sym (cond-false _ (Some Nothing) (option_map (want_of files owners a.write) (get cells (last_page a))) (ne_eqb (last_page a) (first_page a) f)) ∙ e)
+
 pub within_one : (k q : ℕ) → within k 1 q ≡ nat_eq q k
 within_one k q = go (within k 1 q) refl
   where

@@ -13,3 +13,5 @@ pub mod Sound
 pub mod Moves
 pub mod Brought
 pub mod Stores
+pub mod Loads
+pub mod Made

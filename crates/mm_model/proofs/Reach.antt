@@ -8,6 +8,7 @@ use Rattle.std.proofs.lemmas.List.{take_all, drop_all}
 use Rattle.corten_base.specs.Bytes as body
 use Rattle.corten_base.specs.declared.calls.Reply.TheVariants as reply
 use Rattle.table_place.specs.Place.{is_user_page}
+use Rattle.table_place.specs.Range.{within}
 use Rattle.page_map.specs.Change.{earliest}
 use Rattle.page_map.specs.Cell.{zeros, file_page, file_bytes}
 use Rattle.page_map.specs.Access.{Access, first_page, page_count, outside_user_pages}
@@ -45,6 +46,20 @@ module _ (a : Access) (some : 0 < a.len) (few : a.len ≤ 4096) where
       go : (last_page a ≡ first_page a) ⊎ (last_page a ≡ first_page a → ⊥) → ((last_page a ≡ first_page a) × (page_count a ≡ 1)) ⊎ ((last_page a ≡ first_page a + 1) × (page_count a ≡ 2))
       go (inl e) = inl (e, omega (arith, e))
       go (inr apart) = let next : last_page a ≡ first_page a + 1 = omega arith in inr (next, omega (arith, next))
+
+  pub here_first : within (first_page a) (page_count a) (first_page a) ≡ true
+  here_first = and_from _ _ (le-leb (first_page a) (first_page a) (omega arith)) (lt-ltb (first_page a) (first_page a + page_count a) (go one_or_two))
+    where
+      go : ((last_page a ≡ first_page a) × (page_count a ≡ 1)) ⊎ ((last_page a ≡ first_page a + 1) × (page_count a ≡ 2)) → first_page a < first_page a + page_count a
+      go (inl e) = omega (arith, e.1)
+      go (inr e) = omega (arith, e.1)
+
+  pub here_last : within (first_page a) (page_count a) (last_page a) ≡ true
+  here_last = go one_or_two
+    where
+      go : ((last_page a ≡ first_page a) × (page_count a ≡ 1)) ⊎ ((last_page a ≡ first_page a + 1) × (page_count a ≡ 2)) → within (first_page a) (page_count a) (last_page a) ≡ true
+      go (inl e) = and_from _ _ (le-leb (first_page a) (last_page a) (omega (arith, e.0))) (lt-ltb (last_page a) (first_page a + page_count a) (omega (arith, e.0, e.1)))
+      go (inr e) = and_from _ _ (le-leb (first_page a) (last_page a) (omega (arith, e.0))) (lt-ltb (last_page a) (first_page a + page_count a) (omega (arith, e.0, e.1)))
 
   abbrev not_user : ℕ → Option ℕ
   not_user page = cond (not (is_user_page 4 page)) (Some page) None

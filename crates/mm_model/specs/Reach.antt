@@ -6,6 +6,7 @@
 --     given, brought      a page on the frame that it got;  the cells after the pages of an access got theirs
 --     overwritten, stored_at      a page after bytes were written at a place in it, and after an access stored some
 --     bytes_of, IsResident      the bytes of a page with a frame;  whether all pages of an access have one
+--     IsWhole      whether all pages have 4,096 bytes
 --     carried, one_at      how many cells carry a number;  1 for the number that is there
 --     IsCounted      counts of no fewer owners than the cells of one space
 --     Leaves, Follows      counts after a number was left, and after cells changed
@@ -85,6 +86,10 @@ bytes_of (Some (Mapped perm frame bytes)) = bytes
 bytes_of (Some (Anon perm)) = []
 bytes_of (Some (File perm file index)) = []
 bytes_of (Some (Swapped perm slot bytes)) = []
+
+-- all cells have 4,096 bytes as their contents
+abbrev pub IsWhole : List (List ℕ) → AddressSpace → Type 0
+IsWhole files cells = (q : ℕ) (c : Cell) → map.get cells q ≡ Some c → length (contents files c) ≡ 4096
 
 pub record IsResident (cells : AddressSpace) (a : Access) : Type 0 where
   pub pages : (q : ℕ) → within (first_page a) (page_count a) q ≡ true → length (bytes_of (map.get cells q)) ≡ 4096

@@ -1,5 +1,5 @@
 //! Loads, stores and page faults on the cells of one space.
-ghost use Rattle.std.specs.Prelude.{◌≡◌, ℕ, ◌+◌, ◌/◌, ◌%◌, ◌<◌, ◌≤◌, ◌^◌, cond, true, false, List, [], ◌∷◌, length, slice_index, nat_eq, nat_lt, IfOk, IfErr, IfSome, IfNone, MatchResult, is_some, IsSome, Some, None};
+ghost use Rattle.std.specs.Prelude.{◌≡◌, ℕ, ◌+◌, ◌/◌, ◌%◌, ◌<◌, ◌≤◌, ◌^◌, cond, true, false, List, [], ◌∷◌, length, slice_index, nat_eq, nat_lt, IfOk, IfErr, OnOk, OnErr, IfSome, IfNone, MatchResult, is_some, IsSome, Some, None};
 ghost use Rattle.std.specs.Option.{option_map, option_and_then, option_copied};
 ghost use Rattle.std.specs.FinMap as map;
 ghost use Rattle.page_map.specs.Change.{change};
@@ -8,7 +8,7 @@ ghost use Rattle.table_place.specs.Place.{is_user_page};
 ghost use Rattle.page_map.specs.Takes.{grant};
 ghost use Rattle.page_map.specs.Access.{first_page, page_count, outside_user_pages, loaded, allows, refused_at};
 ghost use Rattle.mm_model.specs.Owners.{unused_of};
-ghost use Rattle.mm_model.specs.Reach.{reaching, last_page, IsUserAccess, beyond, wanting, refused_in, given, brought, overwritten, stored_at, bytes_of, IsResident, one_at, IsCounted, Leaves, Follows};
+ghost use Rattle.mm_model.specs.Reach.{reaching, storing, last_page, IsUserAccess, beyond, wanting, refused_in, given, brought, overwritten, stored_at, bytes_of, IsResident, IsWhole, one_at, IsCounted, Leaves, Follows, Makes, Keeps};
 ghost use Rattle.mm_model.specs.declared.access.Want.TheVariants.{Nothing};
 ghost use Rattle.mm_model.specs.Wants.{want_of, is_wanting, Suits, IsPlan, refusal_of};
 
@@ -20,6 +20,9 @@ use std::alloc::{AllocError, Global};
 use std::marker::Model;
 use std::mem;
 
+/// A page of zeros.
+static ZEROS: [u8; PAGE_BYTES] = [0; PAGE_BYTES];
+
 /// Bytes of user pages that are read or written: 1 to 4,096 of them, from an address on.
 #[derive(Clone, Copy)]
 pub struct Access {
@@ -30,7 +33,7 @@ pub struct Access {
 
 impl Model for Access {
     ghost use Rattle.page_map.specs.Access.{Access};
-    ghost use Rattle.mm_model.specs.Reach.{reaching, IsUserAccess};
+    ghost use Rattle.mm_model.specs.Reach.{reaching, storing, IsUserAccess};
 
     ghost Value = { Access };
 
@@ -274,6 +277,7 @@ impl AddressSpace {
     /// What the pages of an access want, or why it is not made.
     pub fn plan(&self, alloc: Global, frames: &Owners, access: Access) -> Result<Plan, Stop>
         requires { IsCounted frame_of frames.now self.now }
+        ensures user { IsUserAccess access }
         ensures access { IfOk result (λ plan. plan.access ≡ access) }
         ensures plan { IfOk result (IsPlan [] self.now (slice_index frames.now)) }
         ensures ok { IfOk result (λ _. refused_in [] self.now frames.now access ≡ None) }
@@ -387,5 +391,39 @@ impl AddressSpace {
         if near < len {
             out.write_at(near as u32, &self.bytes(access.last())[..len - near]);
         }
+    }
+
+    /// The bytes of an access, whose pages get the frames that they want.
+    pub fn load(&mut self, alloc: Global, frames: &mut Owners, slots: &mut Owners, access: Access) -> Result<ByteList, Stop>
+        requires whole { IsWhole [] self.old }
+        requires frames { IsCounted frame_of frames.old self.old }
+        requires slots { IsCounted slot_of slots.old self.old }
+        ensures bytes { IfOk result (λ bytes. bytes ≡ loaded [] self.old access) }
+        ensures made { OnOk result (Makes access self.old self.new frames.old frames.new slots.old slots.new) }
+        ensures refused { IfErr result (λ stop. IfSome (refusal_of stop) (λ reply. refused_in [] self.old frames.old access ≡ Some reply)) }
+        ensures kept { OnErr result (Keeps self.old self.new frames.old frames.new slots.old slots.new) }
+    {
+        let plan = self.plan(alloc, frames, access)?;
+        let mut bytes = ByteList::of(alloc, &ZEROS[..access.len as usize])?;
+        self.bring_in(plan, frames, slots);
+        self.read(access, &mut bytes);
+        Ok(bytes)
+    }
+
+    /// Stores the bytes of an access, whose pages get the frames that they want.
+    pub fn store(&mut self, alloc: Global, frames: &mut Owners, slots: &mut Owners, access: Access, bytes: &[u8]) -> Result<(), Stop>
+        requires write { access.write ≡ true }
+        requires len { length bytes.now ≡ access.len }
+        requires whole { IsWhole [] self.old }
+        requires frames { IsCounted frame_of frames.old self.old }
+        requires slots { IsCounted slot_of slots.old self.old }
+        ensures made { OnOk result (Makes (storing access.at bytes.now) self.old self.new frames.old frames.new slots.old slots.new) }
+        ensures refused { IfErr result (λ stop. IfSome (refusal_of stop) (λ reply. refused_in [] self.old frames.old access ≡ Some reply)) }
+        ensures kept { OnErr result (Keeps self.old self.new frames.old frames.new slots.old slots.new) }
+    {
+        let plan = self.plan(alloc, frames, access)?;
+        self.bring_in(plan, frames, slots);
+        self.write(access, bytes);
+        Ok(())
     }
 }
