@@ -4,3 +4,4 @@ pub mod Lending
 pub mod Reach
 pub mod Wants
 pub mod Backing
+pub mod Accesses

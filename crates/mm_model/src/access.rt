@@ -4,6 +4,7 @@ ghost use Rattle.std.specs.Option.{option_map, option_and_then, option_copied};
 ghost use Rattle.std.specs.FinMap as map;
 ghost use Rattle.page_map.specs.Change.{change};
 ghost use Rattle.page_map.specs.Cell.{perm_of, frame_of, slot_of, is_past_end};
+ghost use Rattle.corten_base.specs.declared.calls.Reply.TheVariants.{Bytes};
 ghost use Rattle.table_place.specs.Place.{is_user_page};
 ghost use Rattle.page_map.specs.Takes.{grant};
 ghost use Rattle.page_map.specs.Access.{first_page, page_count, outside_user_pages, loaded, allows, refused_at};
@@ -53,20 +54,20 @@ fn is_user(page: u64) -> bool
 
 impl Access {
     /// An access, or the refusal of one that has a page which is no user page.
-    pub fn new(at: u64, len: u16, write: bool) -> Result<Access, Reply>
+    pub fn new(at: u64, len: u16, write: bool) -> Result<Access, Stop>
         requires some { 0 < len }
         requires few { len ≤ 4096 }
-        ensures ok { IfOk result (λ access. access ≡ reaching at len write) }
-        ensures refused { MatchResult result (λ _. outside_user_pages 4 (reaching at len write) ≡ None)
-            (λ reply. outside_user_pages 4 (reaching at len write) ≡ Some reply) }
+        ensures access { IfOk result (λ access. access ≡ reaching at len write) }
+        ensures ok { IfOk result (λ _. outside_user_pages 4 (reaching at len write) ≡ None) }
+        ensures refused { IfErr result (λ stop. IfSome (refusal_of stop) (λ reply. outside_user_pages 4 (reaching at len write) ≡ Some reply)) }
     {
         let first = at / 4096;
         if !is_user(first) {
-            return Err(Reply::Segv(4096 * first));
+            return Err(Stop::Refused(Reply::Segv(4096 * first)));
         }
         let last = (at + u64::from(len) - 1) / 4096;
         if !is_user(last) {
-            return Err(Reply::Segv(4096 * last));
+            return Err(Stop::Refused(Reply::Segv(4096 * last)));
         }
         Ok(Access { at, len, write })
     }
@@ -394,11 +395,11 @@ impl AddressSpace {
     }
 
     /// The bytes of an access, whose pages get the frames that they want.
-    pub fn load(&mut self, alloc: Global, frames: &mut Owners, slots: &mut Owners, access: Access) -> Result<ByteList, Stop>
+    pub fn load(&mut self, alloc: Global, frames: &mut Owners, slots: &mut Owners, access: Access) -> Result<Reply, Stop>
         requires whole { IsWhole [] self.old }
         requires frames { IsCounted frame_of frames.old self.old }
         requires slots { IsCounted slot_of slots.old self.old }
-        ensures bytes { IfOk result (λ bytes. bytes ≡ loaded [] self.old access) }
+        ensures bytes { IfOk result (λ reply. reply ≡ Bytes (loaded [] self.old access)) }
         ensures made { OnOk result (Makes access self.old self.new frames.old frames.new slots.old slots.new) }
         ensures refused { IfErr result (λ stop. IfSome (refusal_of stop) (λ reply. refused_in [] self.old frames.old access ≡ Some reply)) }
         ensures kept { OnErr result (Keeps self.old self.new frames.old frames.new slots.old slots.new) }
@@ -407,16 +408,17 @@ impl AddressSpace {
         let mut bytes = ByteList::of(alloc, &ZEROS[..access.len as usize])?;
         self.bring_in(plan, frames, slots);
         self.read(access, &mut bytes);
-        Ok(bytes)
+        Ok(Reply::Bytes(bytes))
     }
 
     /// Stores the bytes of an access, whose pages get the frames that they want.
-    pub fn store(&mut self, alloc: Global, frames: &mut Owners, slots: &mut Owners, access: Access, bytes: &[u8]) -> Result<(), Stop>
+    pub fn store(&mut self, alloc: Global, frames: &mut Owners, slots: &mut Owners, access: Access, bytes: &[u8]) -> Result<Reply, Stop>
         requires write { access.write ≡ true }
         requires len { length bytes.now ≡ access.len }
         requires whole { IsWhole [] self.old }
         requires frames { IsCounted frame_of frames.old self.old }
         requires slots { IsCounted slot_of slots.old self.old }
+        ensures reply { IfOk result (λ reply. reply ≡ Reply.Ok) }
         ensures made { OnOk result (Makes (storing access.at bytes.now) self.old self.new frames.old frames.new slots.old slots.new) }
         ensures refused { IfErr result (λ stop. IfSome (refusal_of stop) (λ reply. refused_in [] self.old frames.old access ≡ Some reply)) }
         ensures kept { OnErr result (Keeps self.old self.new frames.old frames.new slots.old slots.new) }
@@ -424,6 +426,6 @@ impl AddressSpace {
         let plan = self.plan(alloc, frames, access)?;
         self.bring_in(plan, frames, slots);
         self.write(access, bytes);
-        Ok(())
+        Ok(Reply::Ok)
     }
 }

@@ -2,6 +2,7 @@
 #![tactic(auto)]
 
 mod access;
+mod accesses;
 mod owners;
 mod plain;
 mod space;

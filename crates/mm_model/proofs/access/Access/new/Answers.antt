@@ -14,7 +14,7 @@ returns-then-not-is_user-2-clause-refused c =
     (ap (λ n. is_user_page 4 ((c.args.at + n - 1) / 4096)) (sym c.from.ensures) ∙ sym c.if-not-is_user-2.ensures)
     ∙ ap (λ n. Some (reply.Segv (4096 * ((c.args.at + n - 1) / 4096)))) (sym c.from.ensures)
 
-pub returns-clause-refused : goal.returns-clause-refused
-returns-clause-refused c =
+pub returns-clause-ok : goal.returns-clause-ok
+returns-clause-ok c =
     outside_last (reaching c.args.at c.args.len c.args.write) c.requires.some c.requires.few (sym c.if-not-is_user.ensures) true
     (ap (λ n. is_user_page 4 ((c.args.at + n - 1) / 4096)) (sym c.from.ensures) ∙ sym c.if-not-is_user-2.ensures)

@@ -1,6 +1,7 @@
 use Rattle.std.proofs.Common.{◌≡◌, [], sym, ap, subst, ◌∙◌}
 use Rattle.std.specs.Prelude.{IsSome, slice_index}
 use Rattle.std.specs.FinMap as map
+use Rattle.corten_base.specs.declared.calls.Reply.TheVariants.{Bytes}
 use Rattle.page_map.specs.Cell.{frame_of}
 use Rattle.page_map.specs.Access.{first_page, loaded}
 use Rattle.page_map.specs.Takes.{Grant, grant}
@@ -33,7 +34,7 @@ read-requires-clause-resident c =
 pub returns-clause-bytes : goal.returns-clause-bytes
 returns-clause-bytes c =
     let before = (goal.at.returns-clause-bytes c).After-bring_in in
-    c.read.ensures ∙ ap (λ cells. loaded [] cells c.args.access) (cells_are before) ∙ loaded_brought [] c.args.self.now c.args.access (grants before)
+    ap Bytes (c.read.ensures ∙ ap (λ cells. loaded [] cells c.args.access) (cells_are before) ∙ loaded_brought [] c.args.self.now c.args.access (grants before))
 
 pub returns-clause-made : goal.returns-clause-made
 returns-clause-made c =
