@@ -1,23 +1,24 @@
 -- After an `unmap`, a load of a page of its range is refused.
-use Rattle.std.proofs.Common.{◌≡◌, ℕ, ◌+◌, ◌-◌, ◌*◌, ◌/◌, ◌^◌, Bool, true, false, cond, not, refl, ap, ◌∙◌, arith}
-use Rattle.std.specs.Prelude.{is_some, Option, Some, None, nat_lt, nat_le}
+use Rattle.std.proofs.Common.{◌≡◌, ℕ, ◌+◌, ◌-◌, ◌*◌, ◌/◌, Bool, true, false, cond, not, refl, ap, ◌∙◌, arith}
+use Rattle.std.specs.Prelude.{is_some, Option, Some, None}
 use Rattle.std.specs.Option.{unwrap_or, option_map}
 use Rattle.std.specs.Cmp.{nat_cmp_total, unsigned_tied, nat_eq_equiv}
 use Rattle.std.specs.FinMap.{FinMap, get, insert, empty, get-insert}
 use Rattle.std.specs.Ordering.{nat_cmp}
-use Rattle.std.proofs.lemmas.Bool.{leb-true, ltb-true, lt-ltb, le-leb, and_parts, and_from}
+use Rattle.std.proofs.lemmas.Bool.{and_parts}
 use Rattle.corten_base.specs.declared.calls.Call.TheVariants as call
 use Rattle.corten_base.specs.declared.calls.Reply.{Reply}
 use Rattle.corten_base.specs.declared.calls.Reply.TheVariants as reply
 use Rattle.table_place.specs.Range.{within}
+use Rattle.table_place.proofs.Tables.{user_page as page_of_range}
 use Rattle.page_map.specs.Change.{earliest}
-use Rattle.table_place.specs.Place.{is_page_range, pages_of, is_user_page}
+use Rattle.table_place.specs.Place.{is_page_range, pages_of, is_user_page, is_user_range}
 use Rattle.page_map.specs.State.{State, AddressSpace, cell_at, space_at}
 use Rattle.page_map.specs.Access.{refused_at}
 use Rattle.page_map.specs.Mapping.{after_op}
 use Rattle.page_map.specs.Step.{refusal, refused_unless}
 use Rattle.page_map.specs.Effect.{state_after}
-use Rattle.page_map.proofs.Range.{get-change, inside}
+use Rattle.page_map.proofs.Range.{get-change}
 use Rattle.page_map.proofs.Steps.{passed, by_pages, not_none}
 
 get_inserted : {X : Type 0} (m : FinMap nat_cmp X) (k : ℕ) (x : X) → get (insert m k x) k ≡ Some x
@@ -51,12 +52,7 @@ held_of true r e = refl
 held_of false r e = absurd (not_none e)
 
 user_page : (at len page : ℕ) → is_page_range 4 at len ≡ true → within (at / 4096) (pages_of len) page ≡ true → is_user_page 4 page ≡ true
-user_page at len page h w =
-    let ends = and_parts (nat_le 16 (at / 4096)) (nat_lt (at / 4096 + pages_of len) (2 ^ 35)) (and_parts _ _ h).1 in
-    let low = leb-true 16 (at / 4096) ends.0 in
-    let high = ltb-true (at / 4096 + pages_of len) (2 ^ 35) ends.1 in
-    let here = inside (at / 4096) (pages_of len) page w in
-    and_from _ _ (le-leb 16 page (omega (arith, low, here.0))) (lt-ltb (page + 1) (2 ^ 35) (omega (arith, high, here.1)))
+user_page at len page h w = page_of_range 4 (at / 4096) (pages_of len) page (and_parts _ (is_user_range 4 (at / 4096) (pages_of len)) h).1 w
 
 -- and so a load there is a `segv`, whichever thread makes it
 pub unmapped_load : (st : State) (thread other space at len page limbo limbo' : ℕ) →
