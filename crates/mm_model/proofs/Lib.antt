@@ -8,3 +8,4 @@ pub mod Bits
 pub mod Tally
 pub mod Counts
 pub mod Sound
+pub mod Levels

@@ -2,3 +2,4 @@ pub mod Owners
 pub mod Plain
 pub mod Lending
 pub mod Backing
+pub mod Levels
