@@ -12,3 +12,16 @@ pub mod Above
 pub mod Samples
 pub mod Need
 pub mod Start
+pub mod Owners
+pub mod Grants
+pub mod Cells
+pub mod Growth
+pub mod Bytes
+pub mod Fits
+pub mod Least
+pub mod Mappings
+pub mod Touched
+pub mod Keeps
+pub mod Removed
+pub mod Spaces
+pub mod StepKeeps

@@ -1,15 +1,26 @@
 //! Laws of the definitions, each the contract of a function that does nothing.
-ghost use Rattle.std.specs.Prelude.{◌≡◌, ℕ, ◌+◌, ◌*◌, ◌/◌, true, false, None, IsSome};
+ghost use Rattle.std.specs.Prelude.{◌≡◌, ℕ, ◌+◌, ◌*◌, ◌/◌, ◌<◌, ◌≤◌, true, false, List, None, IsSome};
+ghost use Rattle.corten_base.specs.declared.numbers.Limits.{Limits};
 ghost use Rattle.corten_base.specs.declared.calls.Call.{Call};
 ghost use Rattle.corten_base.specs.declared.calls.Call.TheVariants as call;
 ghost use Rattle.corten_base.specs.declared.calls.Reply.TheVariants as reply;
 ghost use Rattle.table_place.specs.declared.Place.{Place};
-ghost use Rattle.page_map.specs.State.{State, linked};
+ghost use Rattle.page_map.specs.State.{State, IsConsistent, start, linked};
 ghost use Rattle.table_place.specs.Range.{within};
 ghost use Rattle.table_place.specs.Place.{pages_of};
 ghost use Rattle.page_map.specs.Tables.{need};
 ghost use Rattle.page_map.specs.Effect.{state_after, wanted_tables, is_given_up};
 ghost use Rattle.page_map.specs.Step.{step, refusal};
+
+/// In the state in which nothing is mapped the facts hold.
+pub fn the_start_is_consistent()
+    ensures { (limits : Limits) (files : List (List ℕ)) → 1 ≤ limits.tables → IsConsistent (start limits files) }
+{}
+
+/// Every step leaves the facts as true as it found them.
+pub fn a_step_keeps_the_facts()
+    ensures { (st : State) (thread limbo : ℕ) (c : Call) → thread < 8 → IsConsistent st → IsConsistent (step st thread c limbo).1 }
+{}
 
 /// A refused call leaves the state as it was.
 pub fn a_refused_call_changes_nothing()

@@ -6,5 +6,6 @@ mod laws;
 
 pub use cell::Cell;
 pub use laws::{
-    a_refused_call_changes_nothing, an_unmapped_page_is_gone, tables_grow_by_what_is_needed,
+    a_refused_call_changes_nothing, a_step_keeps_the_facts, an_unmapped_page_is_gone,
+    tables_grow_by_what_is_needed, the_start_is_consistent,
 };
