@@ -1,7 +1,7 @@
 -- The tables of one level after another.
-use Rattle.std.proofs.Common.{◌≡◌, ℕ, zero, suc, ◌+◌, ◌-◌, ◌≤◌, ◌<◌, ◌^◌, Bool, true, false, cond, not, List, [], ◌∷◌, ◌++◌, append-nil, zero-add, refl, sym, ap, ◌∙◌, arith}
-use Rattle.std.specs.Prelude.{◌&&◌, ◌||◌, map, nat_eq, nat_le, nat_lt}
-use Rattle.std.specs.List.{range_with_len, flat_map, sum_by, filter}
+use Rattle.std.proofs.Common.{◌≡◌, ℕ, zero, suc, ◌+◌, ◌-◌, ◌≤◌, ◌<◌, Bool, true, false, cond, not, List, [], ◌∷◌, ◌++◌, append-nil, zero-add, refl, sym, ap, ◌∙◌, arith}
+use Rattle.std.specs.Prelude.{◌&&◌, ◌||◌, nat_eq}
+use Rattle.std.specs.List.{range_with_len, flat_map, sum_by}
 use Rattle.std.specs.Ordering.{nat_cmp, is_le, is_eq, ordering_then}
 use Rattle.std.specs.declared.cmp.Ordering.{Ordering}
 use Rattle.std.specs.declared.cmp.Ordering.TheVariants.{Less, Equal, Greater}
@@ -14,7 +14,7 @@ use Rattle.std.specs.FinSet.{FinSet, same_set, len-empty, contains-empty, contai
 use mathlib.Core.Logic.{inl, inr}
 use mathlib.Core.Bool.{true≢false}
 use Rattle.std.proofs.lemmas.Bool.{cases_eq, eq-eqb, eqb-true, ne_eqb, and_from, and_parts, le-leb, lt-ltb}
-use Rattle.std.proofs.lemmas.List.Sums.{sum_by-append, sum_by-cons}
+use Rattle.std.proofs.lemmas.List.Sums.{sum_by-append}
 use Rattle.std.proofs.lemmas.List.Concat.{flat_map-append}
 use Rattle.table_place.specs.declared.Place.{Place}
 use Rattle.table_place.specs.Range.{within}
@@ -72,7 +72,6 @@ module _ {K : Type 0} {R : K → K → Ordering} (o : IsTotalOrder R) (same : Is
       where
         none : {a b c : ℕ} → a ≡ 0 → b ≡ 0 → c ≡ 0 → a + b ≡ c
         none e f g = omega (arith, e, f, g)
-
     split_list (k ∷ ks) =
         (λ i. len_kept p (set.from_list ks) k i + len_kept q (set.from_list ks) k i)
         ∙ one_more (p k) (q k) (set.contains (set.from_list ks) k) (apart k) _ _ _ (split_list ks)
@@ -187,10 +186,10 @@ between_places space level low end room p =
 
 -- ---- steps of loops over the levels
 
-same_level : (level : ℕ) → 1 ≤ level → 1 + (level - 1) ≡ level
+pub same_level : (level : ℕ) → 1 ≤ level → 1 + (level - 1) ≡ level
 same_level level h = omega arith
 
-next_level : (level : ℕ) → 1 ≤ level → level - 1 + 1 ≡ level + 1 - 1
+pub next_level : (level : ℕ) → 1 ≤ level → level - 1 + 1 ≡ level + 1 - 1
 next_level level h = omega arith
 
 pub sum_step : (f : ℕ → ℕ) (sum level added : ℕ) → 1 ≤ level → sum ≡ sum_by f (range_with_len 1 (level - 1)) → added ≡ f level → sum + added ≡ sum_by f (range_with_len 1 (level + 1 - 1))

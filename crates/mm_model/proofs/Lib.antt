@@ -9,3 +9,4 @@ pub mod Tally
 pub mod Counts
 pub mod Sound
 pub mod Levels
+pub mod Missing

@@ -101,6 +101,13 @@ impl Tables {
         self.places.len()
     }
 
+    /// Whether a table is there.
+    fn contains(&self, place: &Place) -> bool
+        ensures { result ≡ set.contains self.now place.now }
+    {
+        self.places.contains(place)
+    }
+
     /// Puts in a table.
     pub fn insert(&mut self, place: Place) -> Result<(), AllocError>
         ensures ok { OnOk result (self.new ≡ set.insert self.old place) }
@@ -160,6 +167,7 @@ impl Tables {
         prefixes: Range<u64>,
         missing: &mut Vec<Place>,
     ) -> Result<(), AllocError>
+        requires { prefixes.start ≤ prefixes.end }
         ensures { OnOk result (missing.new.items ≡ missing.old.items
             ++ filter (λ p. not (set.contains self.now p)) (tables_of space level prefixes.start (prefixes.end - prefixes.start))) }
     {
@@ -169,7 +177,7 @@ impl Tables {
                 level,
                 prefix,
             };
-            if !self.places.contains(&place) {
+            if !self.contains(&place) {
                 missing.push(place)?;
             }
         }
@@ -177,7 +185,13 @@ impl Tables {
     }
 
     /// The tables above a range of pages that are missing.
-    fn missing(&self, alloc: Global, space: u8, first: u64, count: u64) -> Result<Vec<Place>, AllocError>
+    fn missing(
+        &self,
+        alloc: Global,
+        space: u8,
+        first: u64,
+        count: u64,
+    ) -> Result<Vec<Place>, AllocError>
         requires some { 0 < count }
         requires fits { first + count ≤ 2 ^ 36 }
         ensures { IfOk result (λ m. m.items ≡ filter (λ p. not (set.contains self.now p)) (above 4 space first count)) }
@@ -200,28 +214,43 @@ impl Tables {
         Ok(())
     }
 
+    /// Removes a table.
+    fn remove(&mut self, place: &Place)
+        ensures { self.new ≡ set.remove self.old place.now }
+    {
+        self.places.remove(place);
+    }
+
     /// Removes tables.
     fn remove_all(&mut self, places: &[Place])
         ensures { self.new ≡ set.difference self.old (set.from_list places.now) }
     {
         for place in places {
-            self.places.remove(place);
+            self.remove(place);
         }
     }
 
     /// Puts in the tables above a range of pages that are missing.
-    pub fn add_above(&mut self, alloc: Global, space: u8, first: u64, count: u64) -> Result<(), AllocError>
+    pub fn add_above(
+        &mut self,
+        alloc: Global,
+        space: u8,
+        first: u64,
+        count: u64,
+    ) -> Result<(), AllocError>
         requires some { 0 < count }
         requires fits { first + count ≤ 2 ^ 36 }
         ensures ok { OnOk result (self.new ≡ set.union self.old (set.from_list (above 4 space first count))) }
         ensures err { OnErr result (self.new ≡ self.old) }
     {
         let missing = self.missing(alloc, space, first, count)?;
-        let added = self.insert_all(&missing);
-        if added.is_err() {
-            self.remove_all(&missing);
+        match self.insert_all(&missing) {
+            Ok(()) => Ok(()),
+            Err(wanting) => {
+                self.remove_all(&missing);
+                Err(wanting)
+            }
         }
-        added
     }
 
     /// Removes the tables whose spans lie in a range of pages.

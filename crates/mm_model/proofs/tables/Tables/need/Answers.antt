@@ -1,4 +1,4 @@
-use Rattle.std.proofs.Common.{◌≡◌, ◌-◌, ◌≤◌, arith}
+use Rattle.std.proofs.Common.{arith}
 use Rattle.page_map.proofs.Need.{need_of_range}
 use Rattle.mm_model.proofs.tables.Tables.need.Goals as goal
 
