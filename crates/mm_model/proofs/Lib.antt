@@ -10,3 +10,7 @@ pub mod Counts
 pub mod Sound
 pub mod Levels
 pub mod Missing
+pub mod Refusals
+pub mod Placing
+pub mod Unowned
+pub mod Placed

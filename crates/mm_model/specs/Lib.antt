@@ -3,3 +3,4 @@ pub mod Plain
 pub mod Lending
 pub mod Backing
 pub mod Levels
+pub mod Placing

@@ -1,6 +1,7 @@
 //! The plain machine: for each space a finite map from pages to cells.
 #![tactic(auto)]
 
+mod mapping;
 mod owners;
 mod plain;
 mod space;

@@ -62,7 +62,8 @@ fn prefixes(level: u8, first: u64, count: u64) -> Range<u64>
 fn above_count(first: u64, count: u64) -> u64
     requires some { 0 < count }
     requires fits { first + count ≤ 2 ^ 36 }
-    ensures { result ≡ sum_by (λ level. prefix_count level first count) (range_with_len 1 4) }
+    ensures value { result ≡ sum_by (λ level. prefix_count level first count) (range_with_len 1 4) }
+    ensures small { result < 2 ^ 39 }
 {
     let mut tables = 0;
     for level in 1..5 {
@@ -154,7 +155,8 @@ impl Tables {
         requires some { 0 < count }
         requires fits { first + count ≤ 2 ^ 36 }
         requires few { set.len self.now < 2 ^ 32 }
-        ensures { result ≡ need (above 4 space first count) self.now }
+        ensures value { result ≡ need (above 4 space first count) self.now }
+        ensures small { result < 2 ^ 39 }
     {
         above_count(first, count) - u64::from(self.above_len(space, first, count))
     }

@@ -14,7 +14,7 @@ loop-level-preserved c =
       small = omega (arith, c.loop-level.invariant.small, p.ensures.small);
     }
 
-pub returns : goal.returns
-returns c =
+pub returns-clause-value : goal.returns-clause-value
+returns-clause-value c =
     let last : c.loop-level.level - 1 ≡ 4 = omega (arith, c.loop-level-test.false, c.loop-level.auto.level-end) in
     c.loop-level.invariant.counted ∙ ap (λ n. sum_by (λ level. prefix_count level c.args.first c.args.count) (range_with_len 1 n)) last
