@@ -111,6 +111,15 @@ impl PageBuf {
         })
     }
 
+    /// A page with the same bytes.
+    pub fn copy(&self, alloc: Global) -> Result<PageBuf, AllocError>
+        ensures { IfOk result (λ page. page ≡ self.now) }
+    {
+        Ok(PageBuf {
+            bytes: Vec::from_slice(alloc, &self.bytes)?,
+        })
+    }
+
     /// The bytes.
     pub fn bytes(&self) -> &[u8]
         ensures value { result.now ≡ self.now }

@@ -44,14 +44,6 @@ module _ (st : State) (thread : ℕ) (c : Call) (limbo : ℕ) (ok : Passed st th
   pub enough_slots : length (wanting_slots_of st c) ≤ length (unused_slots st)
   enough_slots = ltb-false (length (unused_slots st)) (length (wanting_slots_of st c)) (unless _ (nat_lt (length (unused_slots st)) (length (wanting_slots_of st c))) ok.swap)
 
--- a step keeps the facts where the accepted call does
-pub keeps_by : (st : State) (thread : ℕ) (c : Call) (limbo : ℕ) → IsConsistent st → (Passed st thread c limbo → IsConsistent (state_after st thread c)) → IsConsistent (step st thread c limbo).1
-keeps_by st thread c limbo ok after = go (refusal st thread c limbo) refl
-  where
-    go : (o : Option Reply) → refusal st thread c limbo ≡ o → IsConsistent (step st thread c limbo).1
-    go (Some r) e = subst (λ (p : Reply × State). IsConsistent p.1) (sym (refused st thread c limbo r e)) ok
-    go None e = subst (λ (p : Reply × State). IsConsistent p.1) (sym (accepted st thread c limbo e)) (after (passed st thread c limbo e))
-
 module _ (st : State) (thread limbo space : ℕ) where
   -- ---- `map`
 

@@ -25,3 +25,11 @@ pub mod Keeps
 pub mod Removed
 pub mod Spaces
 pub mod StepKeeps
+pub mod Named
+pub mod Memory
+pub mod Bytewise
+pub mod Gaps
+pub mod Few
+pub mod Recalled
+pub mod Written
+pub mod Replies

@@ -50,7 +50,7 @@ right_over levels files (op.Protect at len perm) h = let r = page_range levels a
 
 module _ (is_right : TxnOp → Bool) where
   -- where no operation is refused, the arguments of each are right
-  none_undone : (k : ℕ) (os : List TxnOp) (cells : AddressSpace) → undone is_right k os cells ≡ None → AllByRecursion (λ o. is_right o ≡ true) os
+  pub none_undone : (k : ℕ) (os : List TxnOp) (cells : AddressSpace) → undone is_right k os cells ≡ None → AllByRecursion (λ o. is_right o ≡ true) os
   none_undone k [] cells e = tt
   none_undone k (o ∷ os) cells e =
       let both = neither (option_map {U = ℕ × Why} (λ w. (k, w)) (why_undone is_right o cells)) (undone is_right (k + 1) os (after_op o cells)) e in

@@ -1,11 +1,12 @@
 -- Worked rows.
-use Rattle.std.proofs.Common.{◌≡◌, true, ◌≤◌, arith, ℕ, ◌+◌, ◌*◌, ◌^◌, List, [], ◌∷◌, length, refl, ap, ◌∙◌}
+use Rattle.std.proofs.Common.{◌≡◌, true, ◌≤◌, arith, ℕ, ◌+◌, ◌-◌, ◌*◌, ◌^◌, List, [], ◌∷◌, length, refl, ap, ◌∙◌}
 use Rattle.std.specs.Prelude.{Option, Some, None, false, cond, nat_lt}
 use Rattle.std.specs.FinMap.{gets, entries-insert}
 use Rattle.std.specs.FinMap as fin
 use Rattle.std.specs.FinSet as set
 use Rattle.std.specs.FinSet.{members}
 use Rattle.corten_base.specs.declared.numbers.Limits.{Limits}
+use Rattle.corten_base.specs.declared.numbers.Accounts.{Accounts}
 use Rattle.corten_base.specs.declared.calls.Call.{Call}
 use Rattle.corten_base.specs.declared.calls.Call.TheVariants as call
 use Rattle.corten_base.specs.declared.calls.MapPlace.TheVariants as place
@@ -13,11 +14,12 @@ use Rattle.corten_base.specs.declared.calls.Backing.TheVariants as backing
 use Rattle.corten_base.specs.declared.calls.Reply.TheVariants as reply
 use Rattle.corten_base.specs.declared.calls.Reply.{Reply}
 use Rattle.corten_base.specs.declared.calls.Entry.{Entry}
-use Rattle.page_map.specs.History.{IsHistory}
+use Rattle.page_map.specs.History.{IsHistory, after, entry_step}
+use Rattle.page_map.specs.Worked.{worked_limits, rw, said, first_run, no_calls}
 use Rattle.page_map.proofs.Histories.{legal_entry}
 use Rattle.page_map.specs.Change.{earliest, change}
 use Rattle.table_place.specs.Place.{above}
-use Rattle.page_map.specs.State.{State, AddressSpace, start, owners, space_at, linked, unused_frames, unused_slots}
+use Rattle.page_map.specs.State.{State, AddressSpace, start, owners, space_at, linked, accounts, unused_frames, unused_slots}
 use Rattle.page_map.specs.Tables.{need, changed_tables}
 use Rattle.table_place.specs.declared.Place.{Place}
 use Rattle.page_map.specs.declared.cell.Cell.TheVariants.{Anon, Mapped}
@@ -34,17 +36,11 @@ use Rattle.page_map.proofs.Places.{place_total, place_exact, written_out}
 use Rattle.page_map.proofs.Evaluate.{entries_empty, retain_empty, retain_insert, difference_is}
 use Rattle.corten_base.specs.declared.permissions.Perm.{Perm}
 
-abbrev pub rw : Perm
-rw = record { read = true; write = true; exec = false }
-
 abbrev pub read_only : Perm
 read_only = record { read = true; write = false; exec = false }
 
-abbrev limits : Limits
-limits = record { frames = 2; tables = 8; swap = 1 }
-
 abbrev st0 : State
-st0 = start limits []
+st0 = start worked_limits []
 
 abbrev map_one : Call
 map_one = call.Map 0 place.Any 1 rw backing.Zero
@@ -170,9 +166,6 @@ load_reply = simp written_out refl
 
 -- ---- the rows
 
-abbrev said : Call → Reply → Entry
-said c r = record { thread = 0; call = c; reply = r }
-
 map_step : step st0 0 map_one 0 ≡ (reply.At 0x8000000000, st1)
 unfolding answer
 map_step = accepted st0 0 map_one 0 (by_none st0 0 map_one 0 first_passes) ∙ (λ i. (reply.At (4096 * unwrap_or (gap0 i) 0), state1 i))
@@ -204,17 +197,61 @@ abbrev loaded_back : Entry
 loaded_back = said load_three (reply.Bytes (0x68 ∷ 0x69 ∷ 0 ∷ []))
 
 -- a page is mapped, stored to and loaded
-pub stored_is_loaded : IsHistory limits [] (mapped ∷ stored ∷ loaded_back ∷ [])
+pub first_run_legal : IsHistory worked_limits [] first_run
 unfolding start
-stored_is_loaded =
+first_run_legal =
     legal_entry st0 st1 mapped (stored ∷ loaded_back ∷ []) room0 map_step
     (legal_entry st1 st2 stored (loaded_back ∷ []) room1 store_step
     (legal_entry st2 (state_after st2 0 load_three) loaded_back [] room1 load_step tt))
 
 -- a `protect` that meets a hole changes nothing
-pub hole_changes_nothing : IsHistory limits [] (mapped ∷ refused_protect ∷ stored ∷ [])
+pub hole_changes_nothing : IsHistory worked_limits [] (mapped ∷ refused_protect ∷ stored ∷ [])
 unfolding start
 hole_changes_nothing =
     legal_entry st0 st1 mapped (refused_protect ∷ stored ∷ []) room0 map_step
     (legal_entry st1 st1 refused_protect (stored ∷ []) room1 (refused st1 0 protect_two 0 (reply.Hole 0x8000001000) protect_refused)
     (legal_entry st1 st2 stored [] room1 store_step tt))
+
+-- ---- the accounts
+
+abbrev st3 : State
+st3 = state_after st2 0 load_three
+
+first_run_after : after st0 first_run ≡ st3
+first_run_after =
+    ap (λ (p : Reply × State). after p.1 (stored ∷ loaded_back ∷ [])) map_step
+    ∙ ap (λ (p : Reply × State). after p.1 (loaded_back ∷ [])) store_step
+    ∙ ap (λ (p : Reply × State). p.1) load_step
+
+frames3 : unused_frames st3 ≡ 1 ∷ []
+unfolding state_after after_access change start owners
+frames3 = simp written_out refl
+
+slots3 : unused_slots st3 ≡ 0 ∷ []
+unfolding state_after after_access change start owners
+slots3 = simp written_out refl
+
+linked3 : linked st3 ≡ 4
+unfolding state_after start pos
+linked3 = simp written_out refl
+
+abbrev counted : ℕ → ℕ → ℕ → ℕ → Accounts
+counted free swap_free linked limbo = record {
+  frames = 2;
+  frames_free = free;
+  frames_mapped = 2 - free;
+  swap = 1;
+  swap_free = swap_free;
+  swap_used = 1 - swap_free;
+  tables = 8;
+  linked = linked;
+  limbo = limbo;
+}
+
+pub first_run_counted : accounts (after st0 first_run) 0 ≡ counted 1 1 4 0
+unfolding accounts start state_after
+first_run_counted = ap (λ s. accounts s 0) first_run_after ∙ (λ i. counted (length (frames3 i)) (length (slots3 i)) (linked3 i) 0)
+
+pub no_calls_counted : accounts (after st0 no_calls) 0 ≡ counted 2 1 1 0
+unfolding accounts start
+no_calls_counted = λ i. counted (length (frames0 i)) (length (slots0 i)) (linked0 i) 0

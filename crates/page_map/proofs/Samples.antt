@@ -30,7 +30,8 @@ use Rattle.corten_base.specs.declared.calls.Why.{Why}
 use Rattle.corten_base.specs.declared.calls.TxnOp.{TxnOp}
 use Rattle.std.specs.Option.{option_map, option_or}
 use Rattle.page_map.specs.Mapping.{refused_op, undone, is_right_within}
-use Rattle.page_map.proofs.Rows.{rw, read_only}
+use Rattle.page_map.specs.Worked.{rw}
+use Rattle.page_map.proofs.Rows.{read_only}
 
 abbrev limits : Limits
 limits = record { frames = 2; tables = 8; swap = 1 }

@@ -6,8 +6,8 @@ use Rattle.corten_base.specs.declared.calls.MapPlace.TheVariants as place
 use Rattle.page_map.specs.State.{State, IsConsistent}
 use Rattle.page_map.specs.Effect.{state_after}
 use Rattle.page_map.specs.Step.{step}
-use Rattle.page_map.proofs.Steps.{Passed}
-use Rattle.page_map.proofs.Keeps.{keeps_by, map_any_keeps, map_at_keeps, map_new_keeps, protect_keeps, txn_keeps, out_call_keeps, in_call_keeps, load_keeps, store_keeps, fault_keeps}
+use Rattle.page_map.proofs.Steps.{Passed, by_step}
+use Rattle.page_map.proofs.Keeps.{map_any_keeps, map_at_keeps, map_new_keeps, protect_keeps, txn_keeps, out_call_keeps, in_call_keeps, load_keeps, store_keeps, fault_keeps}
 use Rattle.page_map.proofs.Removed.{unmap_keeps}
 use Rattle.page_map.proofs.Spaces.{spawn_keeps, fork_keeps, exit_keeps}
 
@@ -28,4 +28,4 @@ after_keeps st thread limbo (call.SwapIn space at len) few ok passed = in_call_k
 after_keeps st thread limbo (call.Txn space at len ops) few ok passed = txn_keeps st thread limbo space at len ops ok passed
 
 pub step_keeps : (st : State) (thread limbo : ℕ) (c : Call) → thread < 8 → IsConsistent st → IsConsistent (step st thread c limbo).1
-step_keeps st thread limbo c few ok = keeps_by st thread c limbo ok (after_keeps st thread limbo c few ok)
+step_keeps st thread limbo c few ok = by_step IsConsistent st thread c limbo ok (after_keeps st thread limbo c few ok)

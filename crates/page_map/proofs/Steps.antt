@@ -1,5 +1,5 @@
 -- Laws of a step.
-use Rattle.std.proofs.Common.{◌≡◌, ℕ, List, [], ◌∷◌, refl, ap, subst, ◌∙◌}
+use Rattle.std.proofs.Common.{◌≡◌, ℕ, List, [], ◌∷◌, refl, sym, ap, subst, ◌∙◌}
 use Rattle.std.specs.Prelude.{Option, Some, None, T, is_some}
 use Rattle.std.specs.List.{AllByRecursion}
 use Rattle.std.specs.Option.{option_or}
@@ -86,3 +86,11 @@ module _ (st : State) (thread : ℕ) (c : Call) (limbo : ℕ) where
       (after_first (no_tables st thread c limbo) (no_frames st c ∷ no_swap st c ∷ []) None p.tables
       (after_first (no_frames st c) (no_swap st c ∷ []) None p.frames
       (after_first (no_swap st c) [] None p.swap refl)))))))
+
+-- What holds of the state, and of the state after it where nothing refuses it, holds of the next state.
+pub by_step : (P : State → Type 0) (st : State) (thread : ℕ) (c : Call) (limbo : ℕ) → P st → (Passed st thread c limbo → P (state_after st thread c)) → P (step st thread c limbo).1
+by_step P st thread c limbo same after = go (refusal st thread c limbo) refl
+  where
+    go : (o : Option Reply) → refusal st thread c limbo ≡ o → P (step st thread c limbo).1
+    go (Some r) e = subst (λ (p : Reply × State). P p.1) (sym (refused st thread c limbo r e)) same
+    go None e = subst (λ (p : Reply × State). P p.1) (sym (accepted st thread c limbo e)) (after (passed st thread c limbo e))

@@ -10,8 +10,9 @@ use Rattle.corten_base.specs.declared.calls.Call.TheVariants as call
 use Rattle.corten_base.specs.declared.calls.Reply.{Reply}
 use Rattle.corten_base.specs.declared.calls.Reply.TheVariants as reply
 use Rattle.table_place.specs.Range.{within}
+use Rattle.table_place.proofs.Tables.{user_page as page_of_range}
 use Rattle.page_map.specs.Change.{earliest}
-use Rattle.table_place.specs.Place.{is_page_range, pages_of, is_user_page}
+use Rattle.table_place.specs.Place.{is_page_range, pages_of, is_user_page, is_user_range}
 use Rattle.page_map.specs.State.{State, AddressSpace, cell_at, space_at}
 use Rattle.page_map.specs.Access.{refused_at}
 use Rattle.page_map.specs.Mapping.{after_op}
@@ -51,12 +52,7 @@ held_of true r e = refl
 held_of false r e = absurd (not_none e)
 
 user_page : (at len page : ℕ) → is_page_range 4 at len ≡ true → within (at / 4096) (pages_of len) page ≡ true → is_user_page 4 page ≡ true
-user_page at len page h w =
-    let ends = and_parts (nat_le 16 (at / 4096)) (nat_lt (at / 4096 + pages_of len) (2 ^ 35)) (and_parts _ _ h).1 in
-    let low = leb-true 16 (at / 4096) ends.0 in
-    let high = ltb-true (at / 4096 + pages_of len) (2 ^ 35) ends.1 in
-    let here = inside (at / 4096) (pages_of len) page w in
-    and_from _ _ (le-leb 16 page (omega (arith, low, here.0))) (lt-ltb (page + 1) (2 ^ 35) (omega (arith, high, here.1)))
+user_page at len page h w = page_of_range 4 (at / 4096) (pages_of len) page (and_parts _ (is_user_range 4 (at / 4096) (pages_of len)) h).1 w
 
 -- and so a load there is a `segv`, whichever thread makes it
 pub unmapped_load : (st : State) (thread other space at len page limbo limbo' : ℕ) →

@@ -11,3 +11,5 @@ pub mod Effect
 pub mod Step
 pub mod History
 pub mod StateCode
+pub mod Memory
+pub mod Worked

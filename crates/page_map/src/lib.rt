@@ -2,10 +2,24 @@
 #![tactic(auto)]
 
 mod cell;
+mod history_laws;
 mod laws;
+mod memory_laws;
+mod worked_scripts;
 
 pub use cell::Cell;
+pub use history_laws::{
+    a_history_is_legal_part_by_part, a_history_keeps_the_facts, replies_follow_from_the_calls,
+};
 pub use laws::{
-    a_refused_call_changes_nothing, a_step_keeps_the_facts, an_unmapped_page_is_gone,
+    a_mapping_goes_to_the_least_gap, a_number_has_at_most_64_owners,
+    a_refused_call_changes_nothing, a_reply_tells_whether_the_call_was_refused,
+    a_step_keeps_the_facts, an_unmapped_page_is_gone, other_pages_stay,
     tables_grow_by_what_is_needed, the_start_is_consistent,
 };
+pub use memory_laws::{
+    a_copy_reads_as_its_source, a_load_replies_what_is_there, a_mapped_page_reads_as_what_backs_it,
+    a_store_puts_its_bytes, other_bytes_stay, what_is_fresh_is_loaded_as_zeros,
+    what_is_stored_is_loaded,
+};
+pub use worked_scripts::{first_run_is_a_history, no_calls_is_a_history};

@@ -1,6 +1,13 @@
 //! Pages, ranges of pages, and the places of page tables.
 #![tactic(auto)]
 
+mod laws;
+
+pub use laws::{
+    a_span_is_a_range_of_pages, an_entry_leads_to_a_child, an_entry_leads_to_the_next_table,
+    the_tables_above_a_range_have_its_pages,
+};
+
 /// The place of a page table.
 ///
 /// `level` counts from 1, the level of the tables whose entries are pages, up to the root's, which is 4

@@ -1,0 +1,4 @@
+pub mod Solo
+pub mod Commands
+pub mod Endings
+pub mod Statuses

@@ -1,0 +1,9 @@
+//! The commands of the program over any source and sink.
+#![tactic(auto)]
+
+mod command;
+mod ending;
+mod script_run;
+mod top;
+
+pub use top::corten_plain;

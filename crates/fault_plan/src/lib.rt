@@ -1,0 +1,8 @@
+//! What an access to a page has to do, from what stands at the page.
+#![tactic(auto)]
+
+mod laws;
+mod rule;
+
+pub use laws::{decisions_cover_all_cases, decisions_exclude_each_other};
+pub use rule::{Decision, decide};

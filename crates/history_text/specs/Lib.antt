@@ -1,0 +1,5 @@
+pub mod Replies
+pub mod Accounting
+pub mod Writing
+pub mod Outcomes
+pub mod HistoryText

@@ -1,0 +1,6 @@
+pub mod HexPairs
+pub mod LineLists
+pub mod Numerals
+pub mod OneValue
+pub mod SpelledBytes
+pub mod WordLists

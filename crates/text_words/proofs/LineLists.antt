@@ -1,0 +1,55 @@
+-- The lines of a text: joined lists, and a text parted in one way alone.
+use Rattle.std.proofs.Common.{◌≡◌, ◌≢◌, ℕ, List, [], ◌∷◌, ◌++◌, refl, sym, ap, ◌∙◌}
+use Rattle.std.specs.List.{All}
+use Rattle.std.proofs.lemmas.Grind.{flat_map-append}
+use Rattle.std.proofs.lemmas.List.{append_assoc, append-nil}
+use Rattle.std.proofs.lemmas.List.Elements.{All-head, All-tail}
+use Rattle.text_words.specs.Layout.{HasNo, IsLine, ended, text}
+
+pub text-append : (xs ys : List (List ℕ)) → text (xs ++ ys) ≡ text xs ++ text ys
+text-append xs ys = flat_map-append ended xs ys
+
+-- a text with one more line
+pub text_push : (lines : List (List ℕ)) (line rest : List ℕ) → text (lines ++ line ∷ []) ++ rest ≡ text lines ++ (ended line ++ rest)
+text_push lines line rest =
+    ap (λ bytes. bytes ++ rest) (text-append lines (line ∷ []) ∙ ap (λ bytes. text lines ++ bytes) (append-nil (ended line)))
+    ∙ append_assoc (text lines) (ended line) rest
+
+-- two first lines before a byte
+pub record SameCut (byte : ℕ) (x xs y ys : List ℕ) : Type 0 where
+  pub front : x ≡ y
+  pub back : xs ≡ ys
+
+pub one_cut : (byte : ℕ) (x xs y ys : List ℕ) → HasNo byte x → HasNo byte y → x ++ byte ∷ xs ≡ y ++ byte ∷ ys → SameCut byte x xs y ys
+one_cut byte [] xs [] ys no_x no_y same = record { front = refl; back = cc }
+one_cut byte [] xs (b ∷ y) ys no_x no_y same = absurd (All-head (λ c. c ≢ byte) b y no_y (cc))
+one_cut byte (a ∷ x) xs [] ys no_x no_y same = absurd (All-head (λ c. c ≢ byte) a x no_x (cc))
+one_cut byte (a ∷ x) xs (b ∷ y) ys no_x no_y same =
+    let rest = one_cut byte x xs y ys (All-tail (λ c. c ≢ byte) a x no_x) (All-tail (λ c. c ≢ byte) b y no_y) (cc) in
+    let heads : a ≡ b = cc in
+    record { front = ap (λ c. c ∷ x) heads ∙ ap (λ cs. b ∷ cs) rest.front; back = rest.back }
+
+-- a first line before a byte that doesn't occur at all
+pub no_cut : (byte : ℕ) (x xs y : List ℕ) → HasNo byte y → x ++ byte ∷ xs ≢ y
+no_cut byte [] xs [] no_y same = cc
+no_cut byte [] xs (b ∷ y) no_y same = All-head (λ c. c ≢ byte) b y no_y (cc)
+no_cut byte (a ∷ x) xs [] no_y same = cc
+no_cut byte (a ∷ x) xs (b ∷ y) no_y same = no_cut byte x xs y (All-tail (λ c. c ≢ byte) b y no_y) (cc)
+
+-- a text has one list of lines, and one rest
+pub record SameLines (xs : List (List ℕ)) (x : List ℕ) (ys : List (List ℕ)) (y : List ℕ) : Type 0 where
+  pub lines : xs ≡ ys
+  pub rest : x ≡ y
+
+-- a line before other bytes, as a cut
+ended_first : (line more : List ℕ) (lines : List (List ℕ)) → text (line ∷ lines) ++ more ≡ line ++ 10 ∷ (text lines ++ more)
+ended_first line more lines = append_assoc (ended line) (text lines) more ∙ append_assoc line (10 ∷ []) (text lines ++ more)
+
+pub one_list_of_lines : (xs : List (List ℕ)) (x : List ℕ) (ys : List (List ℕ)) (y : List ℕ) → All IsLine xs → All IsLine ys → IsLine x → IsLine y → text xs ++ x ≡ text ys ++ y → SameLines xs x ys y
+one_list_of_lines [] x [] y xs_are ys_are x_is y_is same = record { lines = refl; rest = same }
+one_list_of_lines [] x (l ∷ ys) y xs_are ys_are x_is y_is same = absurd (no_cut 10 l (text ys ++ y) x x_is (sym (same ∙ ended_first l y ys)))
+one_list_of_lines (k ∷ xs) x [] y xs_are ys_are x_is y_is same = absurd (no_cut 10 k (text xs ++ x) y y_is (sym (ended_first k x xs) ∙ same))
+one_list_of_lines (k ∷ xs) x (l ∷ ys) y xs_are ys_are x_is y_is same =
+    let cut = one_cut 10 k (text xs ++ x) l (text ys ++ y) (All-head IsLine k xs xs_are) (All-head IsLine l ys ys_are) (sym (ended_first k x xs) ∙ same ∙ ended_first l y ys) in
+    let rest = one_list_of_lines xs x ys y (All-tail IsLine k xs xs_are) (All-tail IsLine l ys ys_are) x_is y_is cut.back in
+    record { lines = ap (λ c. c ∷ xs) cut.front ∙ ap (λ cs. l ∷ cs) rest.lines; rest = rest.rest }

@@ -1,0 +1,62 @@
+//! The words of a line.
+ghost use Rattle.std.specs.Prelude.{◌≡◌, [], ◌∷◌, ◌↔◌, IsTrue, IfSome, IfNone};
+ghost use Rattle.text_words.specs.Layout.{words_of};
+
+use crate::cut::cut_at;
+use std::marker::Model;
+
+/// The words of a line that are left, from left to right: what stands between its spaces and its ends.
+#[derive(Drop)]
+pub struct Words<'a> {
+    rest: &'a [u8],
+    done: bool,
+}
+
+impl<'a> Model for Words<'a> {
+    ghost use Rattle.std.specs.Prelude.{ℕ, List, [], if◌then◌else◌};
+    ghost use Rattle.text_words.specs.Layout.{words_of};
+
+    ghost Value = { List (List ℕ) };
+
+    ghost view = { λ w. if w.done then [] else words_of w.rest.now };
+}
+
+impl<'a> Words<'a> {
+    /// The words of a line.
+    pub fn of(line: &'a [u8]) -> Words<'a>
+        ensures { result ≡ words_of line.now }
+    {
+        Words {
+            rest: line,
+            done: false,
+        }
+    }
+
+    /// The next word, which is left no more.
+    pub fn next_word(&mut self) -> Option<&'a [u8]>
+        ensures word { IfSome result (λ word. self.old ≡ word.now ∷ self.new) }
+        ensures none { IfNone result (self.old ≡ []) }
+        ensures stays { IfNone result (self.new ≡ []) }
+    {
+        if self.done {
+            return None;
+        }
+        match cut_at(self.rest, b' ') {
+            Some((word, rest)) => {
+                self.rest = rest;
+                Some(word)
+            }
+            None => {
+                self.done = true;
+                Some(self.rest)
+            }
+        }
+    }
+
+    /// Whether no word is left.
+    pub fn is_done(&self) -> bool
+        ensures { IsTrue result ↔ (self.now ≡ []) }
+    {
+        self.done
+    }
+}
