@@ -23,7 +23,7 @@ use Rattle.page_map.proofs.Entries.{get_entries}
 use Rattle.mm_model.proofs.Least.{least_is, least_none}
 use Rattle.mm_model.proofs.Free.{free_range, taken_range}
 
-abbrev in_range : ℕ → ℕ → ℕ → Bool
+abbrev pub in_range : ℕ → ℕ → ℕ → Bool
 in_range low end q = range_contains nat_cmp (Included low) (Excluded end) q
 
 not_above : (k q : ℕ) → k ≤ q → is_gt (nat_cmp k q) ≡ false
@@ -32,10 +32,10 @@ not_above k q h = elim (cases_lt k q) [
   | inr m ↦ ap is_gt (sym (nat_cmp_is k q Equal (omega arith)))
 ]
 
-is_in : (low end q : ℕ) → low ≤ q → q < end → in_range low end q ≡ true
+pub is_in : (low end q : ℕ) → low ≤ q → q < end → in_range low end q ≡ true
 is_in low end q a b = range_contains-from_IsInRange nat_cmp_total (Included low) (Excluded end) q (not_above low q a, sym (nat_cmp_is q end Less b))
 
-bounds : (low end q : ℕ) → in_range low end q ≡ true → (low ≤ q) × (q < end)
+pub bounds : (low end q : ℕ) → in_range low end q ≡ true → (low ≤ q) × (q < end)
 bounds low end q h =
     (le_from_is_le low q (and_parts (is_le (nat_cmp low q)) _ h).0, ranked q end Less (sym (IsInRange-from_range_contains nat_cmp_total (Included low) (Excluded end) q h).1))
 

@@ -15,3 +15,9 @@ pub mod Brought
 pub mod Stores
 pub mod Loads
 pub mod Made
+pub mod Levels
+pub mod Missing
+pub mod Refusals
+pub mod Placing
+pub mod Unowned
+pub mod Placed

@@ -5,3 +5,5 @@ pub mod Reach
 pub mod Wants
 pub mod Backing
 pub mod Accesses
+pub mod Levels
+pub mod Placing
