@@ -1,13 +1,11 @@
 -- The cells after the pages of an access got their frames.
-use Rattle.std.proofs.Common.{◌≡◌, ℕ, suc, ◌+◌, ◌<◌, ◌≤◌, Bool, true, false, cond, ◌&&◌, ◌||◌, List, [], ◌∷◌, ◌++◌, length, refl, sym, ap, subst, ◌∙◌, arith}
+use Rattle.std.proofs.Common.{◌≡◌, ℕ, ◌+◌, ◌<◌, ◌≤◌, Bool, true, false, cond, ◌||◌, List, [], ◌∷◌, ◌++◌, length, refl, sym, ap, subst, ◌∙◌, arith}
 use mathlib.Core.Logic.{◌⊎◌, inl, inr}
-use Rattle.std.specs.Prelude.{Option, Some, None, IsSome, IfSome, IfNone, is_some, nat_eq, nat_lt, nat_le}
+use Rattle.std.specs.Prelude.{Option, Some, None, IsSome, IfSome, IfNone, is_some, nat_eq}
 use Rattle.std.specs.Option.{option_map}
 use Rattle.std.specs.List.{zip}
-use Rattle.std.specs.Ordering.{nat_cmp, eq_by_cmp}
-use Rattle.std.specs.Cmp.{nat_cmp_total, unsigned_tied, nat_eq_equiv}
-use Rattle.std.proofs.lemmas.Bool.{cases_eq, eq-eqb, ne_eqb, eqb-true, cond-true, cond-false, false≢true}
-use Rattle.std.specs.FinMap as fin
+use Rattle.std.specs.Cmp.{unsigned_tied, nat_eq_equiv}
+use Rattle.std.proofs.lemmas.Bool.{cases_eq, eq-eqb, ne_eqb, cond-true, cond-false, false≢true}
 use Rattle.std.specs.FinMap.{get}
 use Rattle.table_place.specs.Range.{within}
 use Rattle.page_map.specs.declared.cell.Cell.{Cell}
@@ -21,7 +19,7 @@ use Rattle.page_map.proofs.Owners.{same_some}
 use Rattle.mm_model.specs.Reach.{last_page, beyond, given, brought}
 use Rattle.mm_model.specs.Wants.{want_of, is_wanting, Suits}
 use Rattle.mm_model.specs.declared.access.Want.{Want}
-use Rattle.mm_model.specs.declared.access.Want.TheVariants.{Nothing, Frame, Body}
+use Rattle.mm_model.specs.declared.access.Want.TheVariants.{Nothing, Frame}
 use Rattle.mm_model.proofs.Reach.{one_or_two}
 
 -- what a page wants suits it

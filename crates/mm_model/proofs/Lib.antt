@@ -21,3 +21,6 @@ pub mod Refusals
 pub mod Placing
 pub mod Unowned
 pub mod Placed
+pub mod Carried
+pub mod AccessSteps
+pub mod AccessCalls

@@ -1,14 +1,13 @@
 -- What an access has changed, once its pages got their frames.
-use Rattle.std.proofs.Common.{◌≡◌, ℕ, zero, suc, ◌+◌, ◌-◌, ◌*◌, ◌/◌, ◌%◌, min, ◌<◌, ◌≤◌, Bool, true, false, cond, List, [], ◌∷◌, ◌++◌, length, take, drop, refl, sym, ap, subst, ◌∙◌, arith}
+use Rattle.std.proofs.Common.{◌≡◌, ℕ, zero, suc, ◌+◌, ◌-◌, ◌*◌, ◌%◌, min, ◌<◌, ◌≤◌, Bool, true, false, cond, List, [], ◌++◌, length, take, drop, refl, sym, ap, subst, ◌∙◌, arith}
 use mathlib.Core.Logic.{◌⊎◌, inl, inr}
-use Rattle.std.specs.Prelude.{Option, Some, None, IsSome, nat_eq, slice_index}
+use Rattle.std.specs.Prelude.{Option, Some, None, IsSome, nat_eq}
 use Rattle.std.specs.Option.{option_map, option_map_or, unwrap_or}
 use Rattle.std.specs.List.{flat_map, range_with_len}
 use Rattle.std.specs.Ordering.{nat_cmp}
 use Rattle.std.specs.Cmp.{nat_cmp_total, unsigned_tied}
 use Rattle.std.proofs.lemmas.Bool.{cases_lt, cases_eq, eqb-true, and_from, le-leb, lt-ltb, false≢true}
 use Rattle.std.proofs.lemmas.List.{drop_all, length-take, length-drop}
-use Rattle.std.specs.FinMap as fin
 use Rattle.std.specs.FinMap.{FinMap, get, get-remove, same_map, nat_cmp-IsAntisymmetric}
 use Rattle.table_place.specs.Range.{within}
 use Rattle.corten_base.specs.Bytes.{bytes_after_write}
@@ -19,9 +18,9 @@ use Rattle.page_map.specs.Cell.{perm_of, frame_of, slot_of, contents, written}
 use Rattle.page_map.specs.State.{AddressSpace}
 use Rattle.page_map.specs.Takes.{Grant, granted}
 use Rattle.page_map.specs.Access.{Access, first_page, page_count, touched, after_access, loaded}
-use Rattle.page_map.proofs.Range.{inside, outside, get-change, change_more, change_none}
+use Rattle.page_map.proofs.Range.{inside, get-change, change_more, change_none}
 use Rattle.page_map.proofs.Bytes.{written_nothing}
-use Rattle.mm_model.specs.Reach.{last_page, storing, given, brought, overwritten, stored_at, bytes_of, IsWhole, IsResident, carried, one_at, Follows}
+use Rattle.mm_model.specs.Reach.{last_page, storing, given, brought, stored_at, bytes_of, IsWhole, IsResident, carried, one_at, Follows}
 use Rattle.mm_model.proofs.Reach.{one_or_two}
 use Rattle.mm_model.proofs.Moves.{carried_insert}
 
@@ -152,7 +151,7 @@ module _ (number_of : Cell → Option ℕ) (n : ℕ) (f : ℕ → Cell → Cell)
   carried_change (suc count) =
       ap (carried number_of n) (change_more cells first count (λ page. option_map (f page)))
       ∙ carried_set (change cells first count (λ page. option_map (f page))) (first + count) (get cells (first + count))
-        (get-change cells first count (λ page. option_map (f page)) (first + count) ∙ ap (λ b. cond b (option_map (f (first + count)) (get cells (first + count))) (get cells (first + count))) (past (within first count (first + count)) refl))
+      (get-change cells first count (λ page. option_map (f page)) (first + count) ∙ ap (λ b. cond b (option_map (f (first + count)) (get cells (first + count))) (get cells (first + count))) (past (within first count (first + count)) refl))
       ∙ carried_change count
     where
       past : (b : Bool) → within first count (first + count) ≡ b → b ≡ false

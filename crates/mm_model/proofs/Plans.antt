@@ -1,12 +1,12 @@
 -- What the pages of an access want, and why it is refused.
-use Rattle.std.proofs.Common.{◌≡◌, ℕ, zero, suc, ◌+◌, ◌<◌, ◌≤◌, Bool, true, false, cond, not, ◌&&◌, List, [], ◌∷◌, ◌++◌, length, get_or, refl, sym, ap, subst, ◌∙◌, arith}
-use Rattle.std.specs.Prelude.{Option, Some, None, IfSome, nat_eq, nat_lt, slice_index, map}
+use Rattle.std.proofs.Common.{◌≡◌, ℕ, ◌+◌, ◌<◌, ◌≤◌, Bool, true, false, cond, not, ◌&&◌, List, [], ◌∷◌, ◌++◌, length, get_or, refl, sym, ap, ◌∙◌, arith}
+use Rattle.std.specs.Prelude.{Option, Some, None, IfSome, nat_eq, slice_index, map}
 use Rattle.std.specs.Option.{option_map, option_or, option_and_then, option_map_or}
-use Rattle.std.specs.List.{filter, count_by}
+use Rattle.std.specs.List.{filter}
 use Rattle.std.specs.Ordering.{nat_cmp}
 use mathlib.Core.Logic.{◌⊎◌, inl, inr}
 use Rattle.std.specs.Cmp.{nat_eq_equiv}
-use Rattle.std.proofs.lemmas.Bool.{cases_eq, eq-eqb, ne_eqb, ltb-true, lt-ltb, le-ltb, cond-true, cond-false}
+use Rattle.std.proofs.lemmas.Bool.{eq-eqb, ne_eqb, lt-ltb, le-ltb, cond-true, cond-false}
 use Rattle.std.proofs.lemmas.List.{append-nil}
 use Rattle.std.specs.FinMap as fin
 use Rattle.std.specs.FinMap.{FinMap, get}
@@ -16,17 +16,16 @@ use Rattle.table_place.specs.Range.{within}
 use Rattle.page_map.specs.declared.cell.Cell.{Cell}
 use Rattle.page_map.specs.declared.cell.Cell.TheVariants.{Anon, File, Mapped, Swapped}
 use Rattle.page_map.specs.Change.{keys_in, earliest}
-use Rattle.page_map.specs.Cell.{frame_of}
 use Rattle.page_map.specs.State.{AddressSpace, carries}
 use Rattle.page_map.specs.Access.{Access, first_page, page_count, refused_at, refused_access}
 use Rattle.page_map.proofs.Range.{inside}
 use Rattle.page_map.proofs.Keys.{keys_in_more, chosen}
 use Rattle.page_map.proofs.Owners.{one_weight, same_some}
 use Rattle.mm_model.specs.Owners.{unused_of}
-use Rattle.mm_model.specs.Reach.{last_page, beyond, wants, wanting, lack, refused_in, carried, IsUserAccess, IsCounted}
+use Rattle.mm_model.specs.Reach.{last_page, beyond, wants, wanting, lack, refused_in, carried, IsCounted}
 use Rattle.mm_model.specs.Wants.{want_of, is_wanting}
 use Rattle.mm_model.specs.declared.access.Want.{Want}
-use Rattle.mm_model.specs.declared.access.Want.TheVariants.{Nothing, Frame, Body}
+use Rattle.mm_model.specs.declared.access.Want.TheVariants.{Nothing, Frame}
 use Rattle.mm_model.proofs.Reach.{earliest_one, earliest_two, one_or_two}
 use Rattle.mm_model.proofs.Tally.{counted}
 
@@ -79,7 +78,7 @@ module _ (files : List (List ℕ)) (owners : ℕ → ℕ) (write : Bool) where
   chosen_wants page (Some cell) want e = ap (λ b. cond b (page ∷ []) []) (sym (wants_it files owners write cell) ∙ ap is_wanting (same_some e))
 
 module _ {X : Type 0} (passes : X → Bool) (m : FinMap nat_cmp X) (low : ℕ) where
-  no_keys : keys_in m low 0 passes ≡ []
+  pub no_keys : keys_in m low 0 passes ≡ []
   no_keys = go (fin.entries m)
     where
       go : (es : List (ℕ × X)) → map (λ e. e.0) (filter (λ e. within low 0 e.0 && passes e.1) es) ≡ []
@@ -134,8 +133,8 @@ module _ (files : List (List ℕ)) (cells : AddressSpace) (owners : ℕ → ℕ)
       go (inr e) =
           ap (λ k. keys_in cells (first_page a) k (wants owners a.write)) e.1 ∙ keys_in_two (wants owners a.write) cells (first_page a)
           ∙ (λ i. chosen_wants files owners a.write (first_page a) (get cells (first_page a)) near n i
-              ++ (ap (λ page. chosen (wants owners a.write) page (get cells page)) (sym e.0)
-                  ∙ chosen_wants files owners a.write (last_page a) (get cells (last_page a)) far (sym (cond-false _ (Some Nothing) (option_map (want_of files owners a.write) (get cells (last_page a))) (ne_eqb (last_page a) (first_page a) (λ g. omega (arith, e.0, g)))) ∙ f)) i)
+          ++ (ap (λ page. chosen (wants owners a.write) page (get cells page)) (sym e.0)
+          ∙ chosen_wants files owners a.write (last_page a) (get cells (last_page a)) far (sym (cond-false _ (Some Nothing) (option_map (want_of files owners a.write) (get cells (last_page a))) (ne_eqb (last_page a) (first_page a) (λ g. omega (arith, e.0, g)))) ∙ f)) i)
 
   pub count_wanting : (near far : Want) → option_map (want_of files owners a.write) (get cells (first_page a)) ≡ Some near →
       beyond a (Some Nothing) (option_map (want_of files owners a.write) (get cells (last_page a))) ≡ Some far →

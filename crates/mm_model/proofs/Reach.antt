@@ -1,9 +1,9 @@
 -- The pages of an access: one, or two that follow one another.
-use Rattle.std.proofs.Common.{◌≡◌, ℕ, zero, suc, ◌+◌, ◌-◌, ◌*◌, ◌/◌, ◌^◌, ◌<◌, ◌≤◌, Bool, true, false, cond, not, ◌&&◌, List, [], ◌++◌, length, take, drop, refl, sym, ap, ◌∙◌, arith}
-use Rattle.std.specs.Prelude.{Option, Some, None, nat_eq, nat_lt, nat_le, slice_get}
-use Rattle.std.specs.Option.{option_map, option_or, unwrap_or}
+use Rattle.std.proofs.Common.{◌≡◌, ℕ, zero, suc, ◌+◌, ◌*◌, ◌^◌, ◌<◌, ◌≤◌, Bool, true, false, cond, not, List, [], ◌++◌, length, take, drop, refl, sym, ap, ◌∙◌, arith}
+use Rattle.std.specs.Prelude.{Option, Some, None}
+use Rattle.std.specs.Option.{option_map, option_or}
 use mathlib.Core.Logic.{◌⊎◌, inl, inr}
-use Rattle.std.proofs.lemmas.Bool.{cases_eq, eq-eqb, ne_eqb, le-leb, lt-ltb, and_from}
+use Rattle.std.proofs.lemmas.Bool.{cases_eq, le-leb, lt-ltb, and_from}
 use Rattle.std.proofs.lemmas.List.{take_all, drop_all}
 use Rattle.corten_base.specs.Bytes as body
 use Rattle.corten_base.specs.declared.calls.Reply.TheVariants as reply
@@ -13,7 +13,7 @@ use Rattle.page_map.specs.Change.{earliest}
 use Rattle.page_map.specs.Cell.{zeros, file_page, file_bytes}
 use Rattle.page_map.specs.Access.{Access, first_page, page_count, outside_user_pages}
 use Rattle.page_map.proofs.Bytes.{length_zeros}
-use Rattle.mm_model.specs.Reach.{reaching, last_page, IsUserAccess}
+use Rattle.mm_model.specs.Reach.{last_page, IsUserAccess}
 
 -- the answer of the first number of a range, or else those of the others
 earliest_more : {B : Type 0} (first n : ℕ) (answer : ℕ → Option B) → earliest first (suc n) answer ≡ option_or (answer first) (earliest (first + 1) n answer)

@@ -1,14 +1,12 @@
 -- Bytes that are written into the pages of an access.
-use Rattle.std.proofs.Common.{◌≡◌, ℕ, suc, ◌+◌, ◌-◌, ◌*◌, ◌/◌, ◌%◌, min, ◌<◌, ◌≤◌, Bool, true, false, cond, List, [], ◌++◌, length, take, drop, refl, sym, ap, ◌∙◌, arith}
+use Rattle.std.proofs.Common.{◌≡◌, ℕ, ◌+◌, ◌-◌, ◌*◌, ◌%◌, min, ◌<◌, ◌≤◌, Bool, true, false, cond, List, length, take, drop, refl, sym, ap, ◌∙◌, arith}
 use mathlib.Core.Logic.{◌⊎◌, inl, inr}
 use Rattle.std.specs.Prelude.{Option, Some, None, nat_eq}
 use Rattle.std.specs.Option.{option_map}
 use Rattle.std.specs.Ordering.{nat_cmp}
-use Rattle.std.specs.Cmp.{nat_cmp_total, unsigned_tied}
-use Rattle.std.proofs.lemmas.Bool.{cases_lt, eqb-true, ne_eqb, cond-false}
-use Rattle.std.proofs.lemmas.List.{take_all, take_min, drop_all, length-drop, length-take}
-use Rattle.std.specs.FinMap as fin
-use Rattle.std.specs.FinMap.{FinMap, get, get-insert, get-remove}
+use Rattle.std.proofs.lemmas.Bool.{eqb-true, ne_eqb, cond-false}
+use Rattle.std.proofs.lemmas.List.{take_all, take_min, length-drop}
+use Rattle.std.specs.FinMap.{FinMap, get}
 use Rattle.page_map.specs.declared.cell.Cell.{Cell}
 use Rattle.page_map.specs.Change.{change, set_at}
 use Rattle.page_map.specs.State.{AddressSpace}

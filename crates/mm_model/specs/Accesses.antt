@@ -1,7 +1,7 @@
 -- Calls of the plain machine that have a reply, or are stopped.
 --     Refuses, Accepts      a call that is refused with a reply;  one that is made and answered
 --     answered      the reply to a call that is made or refused; without memory there is none
-use Rattle.std.specs.Prelude.{◌≡◌, ℕ, ◌+◌, ◌≤◌, Result, Ok, Err, Option, Some, None, alloc_error}
+use Rattle.std.specs.Prelude.{◌≡◌, ℕ, ◌+◌, ◌≤◌, Result, Ok, Err, Some, None, alloc_error}
 use Rattle.std.specs.declared.alloc.AllocError.{AllocError}
 use Rattle.corten_base.specs.declared.calls.Call.{Call}
 use Rattle.corten_base.specs.declared.calls.Reply.{Reply}

@@ -11,7 +11,7 @@
 --     IsCounted      counts of no fewer owners than the cells of one space
 --     Leaves, Follows      counts after a number was left, and after cells changed
 --     Makes, Keeps      what an access changes that nothing refuses;  that nothing has changed
-use Rattle.std.specs.Prelude.{◌≡◌, ℕ, ◌+◌, ◌-◌, ◌*◌, ◌/◌, ◌^◌, ◌<◌, ◌≤◌, Bool, true, false, cond, not, ◌&&◌, List, [], length, take, drop, slice_index, nat_eq, nat_lt, Option, Some, None}
+use Rattle.std.specs.Prelude.{◌≡◌, ℕ, ◌+◌, ◌-◌, ◌*◌, ◌/◌, ◌^◌, ◌<◌, ◌≤◌, Bool, true, cond, not, ◌&&◌, List, [], length, take, drop, slice_index, nat_eq, nat_lt, Option, Some, None}
 use Rattle.std.specs.Option.{unwrap_or, option_map, option_or}
 use Rattle.std.specs.List.{count_by}
 use Rattle.std.specs.FinMap as map

@@ -295,7 +295,14 @@ impl AddressSpace {
     }
 
     /// Moves a page to the frame that it got.
-    fn move_to(&mut self, page: u64, frame: u32, want: Want, frames: &mut Owners, slots: &mut Owners)
+    fn move_to(
+        &mut self,
+        page: u64,
+        frame: u32,
+        want: Want,
+        frames: &mut Owners,
+        slots: &mut Owners,
+    )
         requires there { IsSome (map.get self.old page) }
         requires suits { IfSome (map.get self.old page) (λ cell. Suits [] cell want) }
         requires wanting { is_wanting want ≡ true }
@@ -313,7 +320,14 @@ impl AddressSpace {
     }
 
     /// Moves a page to the frame that it got, if it got one.
-    fn settle(&mut self, page: u64, frame: Option<u32>, want: Want, frames: &mut Owners, slots: &mut Owners)
+    fn settle(
+        &mut self,
+        page: u64,
+        frame: Option<u32>,
+        want: Want,
+        frames: &mut Owners,
+        slots: &mut Owners,
+    )
         requires there { IsSome (map.get self.old page) }
         requires suits { IfSome (map.get self.old page) (λ cell. Suits [] cell want) }
         requires taken { is_some frame ≡ is_wanting want }
@@ -395,7 +409,13 @@ impl AddressSpace {
     }
 
     /// The bytes of an access, whose pages get the frames that they want.
-    pub fn load(&mut self, alloc: Global, frames: &mut Owners, slots: &mut Owners, access: Access) -> Result<Reply, Stop>
+    pub fn load(
+        &mut self,
+        alloc: Global,
+        frames: &mut Owners,
+        slots: &mut Owners,
+        access: Access,
+    ) -> Result<Reply, Stop>
         requires whole { IsWhole [] self.old }
         requires frames { IsCounted frame_of frames.old self.old }
         requires slots { IsCounted slot_of slots.old self.old }
@@ -412,7 +432,14 @@ impl AddressSpace {
     }
 
     /// Stores the bytes of an access, whose pages get the frames that they want.
-    pub fn store(&mut self, alloc: Global, frames: &mut Owners, slots: &mut Owners, access: Access, bytes: &[u8]) -> Result<Reply, Stop>
+    pub fn store(
+        &mut self,
+        alloc: Global,
+        frames: &mut Owners,
+        slots: &mut Owners,
+        access: Access,
+        bytes: &[u8],
+    ) -> Result<Reply, Stop>
         requires write { access.write ≡ true }
         requires len { length bytes.now ≡ access.len }
         requires whole { IsWhole [] self.old }

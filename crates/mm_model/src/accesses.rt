@@ -38,7 +38,13 @@ impl Plain {
     }
 
     /// The bytes from an address on. Their pages get the frames that they want.
-    pub(crate) fn load(&mut self, alloc: Global, space: SpaceId, at: u64, len: u16) -> Result<Reply, AllocError>
+    pub(crate) fn load(
+        &mut self,
+        alloc: Global,
+        space: SpaceId,
+        at: u64,
+        len: u16,
+    ) -> Result<Reply, AllocError>
         requires some { 0 < len }
         requires few { len ≤ 4096 }
         ensures ok { IfOk result (λ reply. (thread limbo : ℕ) → linked self.old + limbo ≤ self.old.limits.tables
@@ -49,7 +55,13 @@ impl Plain {
     }
 
     /// Stores bytes from an address on, or says why they are not stored.
-    fn try_store(&mut self, alloc: Global, space: SpaceId, at: u64, bytes: &ByteList) -> Result<Reply, Stop>
+    fn try_store(
+        &mut self,
+        alloc: Global,
+        space: SpaceId,
+        at: u64,
+        bytes: &ByteList,
+    ) -> Result<Reply, Stop>
         requires { 0 < length bytes.now }
         ensures ok { IfOk result (Accepts self.old self.new (call.Store space at bytes.now)) }
         ensures refused { IfErr result (λ stop. IfSome (refusal_of stop) (Refuses self.old (call.Store space at bytes.now))) }
@@ -64,7 +76,13 @@ impl Plain {
     }
 
     /// Stores bytes from an address on. Their pages get the frames that they want.
-    pub(crate) fn store(&mut self, alloc: Global, space: SpaceId, at: u64, bytes: &ByteList) -> Result<Reply, AllocError>
+    pub(crate) fn store(
+        &mut self,
+        alloc: Global,
+        space: SpaceId,
+        at: u64,
+        bytes: &ByteList,
+    ) -> Result<Reply, AllocError>
         requires { 0 < length bytes.now }
         ensures ok { IfOk result (λ reply. (thread limbo : ℕ) → linked self.old + limbo ≤ self.old.limits.tables
             → (reply, self.new) ≡ step self.old thread (call.Store space at bytes.now) limbo) }

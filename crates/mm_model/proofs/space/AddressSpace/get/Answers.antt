@@ -1,5 +1,4 @@
 use Rattle.std.proofs.Common.{sym, ap, ◌∙◌}
-use Rattle.std.specs.Ordering.{nat_cmp}
 use Rattle.std.specs.FinMap as map
 use Rattle.page_map.proofs.Entries.{get_entries}
 use Rattle.mm_model.proofs.space.AddressSpace.get.Goals as goal

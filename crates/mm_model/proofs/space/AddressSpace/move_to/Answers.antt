@@ -1,9 +1,8 @@
-use Rattle.std.proofs.Common.{◌≡◌, [], Some, None, sym, ap, subst, ◌∙◌, ◌<◌, get_or}
-use Rattle.std.specs.Prelude.{IfSome}
+use Rattle.std.proofs.Common.{◌≡◌, [], Some, None, sym, ap, subst, ◌∙◌}
 use Rattle.std.specs.Option.{OnSome}
 use Rattle.std.specs.FinMap as map
 use Rattle.page_map.specs.Cell.{frame_of, slot_of}
-use Rattle.mm_model.specs.Reach.{given, Leaves, Follows}
+use Rattle.mm_model.specs.Reach.{given, Follows}
 use Rattle.mm_model.proofs.Plans.{has_count}
 use Rattle.mm_model.proofs.Moves.{moved_cells, moved_frames, moved_slots}
 use Rattle.mm_model.proofs.space.AddressSpace.move_to.Goals as goal

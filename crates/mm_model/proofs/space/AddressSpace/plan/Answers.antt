@@ -1,16 +1,13 @@
-use Rattle.std.proofs.Common.{◌≡◌, ℕ, [], ◌+◌, ◌≤◌, ◌<◌, cond, Some, None, sym, ap, subst, ◌∙◌, arith}
-use Rattle.std.specs.Prelude.{length, slice_index, IfErr, IfSome}
+use Rattle.std.proofs.Common.{◌≡◌, [], ◌+◌, Some, sym, subst, ◌∙◌}
+use Rattle.std.specs.Prelude.{slice_index}
 use Rattle.std.specs.Option.{option_map}
 use Rattle.std.specs.FinMap as map
 use Rattle.std.proofs.lemmas.Result.{err_from_is_err_and}
 use Rattle.std.proofs.lemmas.Option.{IfSome_then}
-use Rattle.corten_base.specs.declared.calls.Reply.{Reply}
-use Rattle.corten_base.specs.declared.calls.Reply.TheVariants as reply
 use Rattle.page_map.specs.Cell.{frame_of}
 use Rattle.page_map.specs.Access.{first_page, refused_at}
-use Rattle.mm_model.specs.Owners.{unused_of}
-use Rattle.mm_model.specs.Reach.{lack, refused_in, IsUserAccess}
-use Rattle.mm_model.specs.Wants.{want_of, is_wanting}
+use Rattle.mm_model.specs.Reach.{lack, IsUserAccess}
+use Rattle.mm_model.specs.Wants.{want_of}
 use Rattle.mm_model.proofs.Plans.{is_counted, refused_by_near, refused_by_far, refused_by_frames, lacking, not_lacking}
 use Rattle.mm_model.proofs.space.AddressSpace.plan.Goals as goal
 use Rattle.mm_model.proofs.space.AddressSpace.plan.Goals.{After-look, In_ok-near, In_ok-far}
@@ -37,7 +34,7 @@ returns-in_err-near-clause-refused c =
     (IfSome_then _ c.in_err-near.ensures.refused (λ r e. refused_by_near [] c.args.self.now c.args.frames.now c.args.access (given before).some (given before).few r (asked before ∙ e)))
 
 pub returns-in_err-far-clause-refused : goal.returns-in_err-far-clause-refused
-returns-in_err-far-clause-refused c = 
+returns-in_err-far-clause-refused c =
     let at = goal.at.returns-in_err-far-clause-refused c in
     let p = err_from_is_err_and c.from_residual-in_err-far.result c.from_residual-in_err-far.ensures.1 in rw (p.1, p.2)
     (IfSome_then _ c.in_err-far.ensures.refused (λ r e. refused_by_far [] c.args.self.now c.args.frames.now c.args.access (given at.After-look).some (given at.After-look).few r (asked at.After-look ∙ c.in_ok-near.ensures.ok) e))

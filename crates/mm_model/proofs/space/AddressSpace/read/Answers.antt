@@ -1,8 +1,8 @@
-use Rattle.std.proofs.Common.{◌≡◌, [], ◌+◌, ◌-◌, min, length, take, drop, sym, ap, subst, ◌∙◌, arith}
+use Rattle.std.proofs.Common.{◌≡◌, [], ◌+◌, ◌-◌, min, length, take, drop, ap, ◌∙◌, arith}
 use Rattle.std.specs.FinMap as map
 use Rattle.corten_base.specs.Bytes.{bytes_after_write}
 use Rattle.page_map.specs.Access.{first_page}
-use Rattle.mm_model.specs.Reach.{last_page, bytes_of}
+use Rattle.mm_model.specs.Reach.{bytes_of}
 use Rattle.mm_model.proofs.Loads.{read_one, read_two}
 use Rattle.mm_model.proofs.space.AddressSpace.read.Goals as goal
 use Rattle.mm_model.proofs.space.AddressSpace.read.Goals.{After-write_at}

@@ -1,4 +1,4 @@
-use Rattle.std.proofs.Common.{◌≡◌, [], Some, None, false, refl, sym, ap, subst, ◌∙◌}
+use Rattle.std.proofs.Common.{◌≡◌, [], Some, None, refl, sym, ap, ◌∙◌}
 use Rattle.std.specs.Prelude.{IfSome, IsSome, is_some, Option}
 use Rattle.std.proofs.lemmas.Bool.{false≢true}
 use Rattle.std.specs.Option.{option_map}
@@ -6,7 +6,7 @@ use Rattle.std.specs.FinMap as map
 use Rattle.page_map.specs.declared.cell.Cell.{Cell}
 use Rattle.page_map.specs.Change.{change}
 use Rattle.mm_model.specs.Reach.{given}
-use Rattle.mm_model.specs.Wants.{Suits, is_wanting}
+use Rattle.mm_model.specs.Wants.{Suits}
 use Rattle.mm_model.proofs.Moves.{stays}
 use Rattle.mm_model.proofs.space.AddressSpace.settle.Goals as goal
 

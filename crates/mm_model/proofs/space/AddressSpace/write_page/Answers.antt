@@ -1,7 +1,7 @@
-use Rattle.std.proofs.Common.{◌≡◌, Some, None, refl, sym, ap, subst, ◌∙◌}
-use Rattle.std.specs.Option.{OnSome, option_map, option_copied_mut}
+use Rattle.std.proofs.Common.{◌≡◌, Some, refl, sym, ap, subst, ◌∙◌}
+use Rattle.std.specs.Option.{OnSome, option_map}
 use Rattle.std.specs.FinMap as map
-use Rattle.page_map.specs.Change.{change, set_at}
+use Rattle.page_map.specs.Change.{set_at}
 use Rattle.mm_model.specs.Reach.{overwritten}
 use Rattle.mm_model.proofs.Moves.{change_one}
 use Rattle.mm_model.proofs.Stores.{change_nothing}
