@@ -14,3 +14,4 @@ pub mod Refusals
 pub mod Placing
 pub mod Unowned
 pub mod Placed
+pub mod Full

@@ -4,3 +4,5 @@ pub mod Lending
 pub mod Backing
 pub mod Levels
 pub mod Placing
+pub mod Served
+pub mod Fronts

@@ -1,6 +1,7 @@
 //! The plain machine: for each space a finite map from pages to cells.
 #![tactic(auto)]
 
+mod fronts;
 mod mapping;
 mod owners;
 mod plain;
