@@ -24,3 +24,4 @@ pub mod Placed
 pub mod Carried
 pub mod AccessSteps
 pub mod AccessCalls
+pub mod Full

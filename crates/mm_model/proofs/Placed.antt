@@ -24,6 +24,7 @@ use Rattle.mm_model.specs.Plain.{IsSound, owner_counts}
 use Rattle.mm_model.specs.declared.mapping.Mapping.{Mapping}
 use Rattle.mm_model.proofs.Free.{none_in_free}
 use Rattle.mm_model.proofs.Placing.{answer_is, after_is}
+use Rattle.mm_model.proofs.Full.{still_full, cells_stay, change_stays}
 use Rattle.mm_model.proofs.Unowned.{same_owners}
 
 no_frame : (what : Backing) (perm : Perm) (i : ℕ) → frame_of (backed what perm i) ≡ None
@@ -78,12 +79,13 @@ module _ (st : State) (thread : ℕ) (m : Mapping) (limbo first : ℕ) (few : th
       sym (accepted st thread (call_of m) limbo placed.passes
       ∙ (λ i. (answer_is st thread m limbo first placed.at_gap i, after_is st thread m limbo first placed.at_gap i)))
 
-  pub stays_sound : (frames slots : List ℕ) → IsSound st frames slots → IsSound next frames slots
-  stays_sound frames slots sound = record {
+  pub stays_sound : (frames slots fronts : List ℕ) → IsSound st frames slots fronts → IsSound next frames slots fronts
+  stays_sound frames slots fronts sound = record {
     state = subst IsConsistent (sym (ap (λ p. p.1) step_is)) (step_keeps st thread limbo (call_of m) few sound.state);
     limits = sound.limits;
     frame_counts = sound.frame_counts ∙ (λ i. owner_counts (λ n. sym (same frame_of (no_frame m.backing m.perm) n) i) st.limits.frames);
     slot_counts = sound.slot_counts ∙ (λ i. owner_counts (λ n. sym (same slot_of (no_slot m.backing m.perm) n) i) st.limits.swap);
+    full = still_full st next fronts (cells_stay st m.space (filled m first cells) (tables_with m first st.tables) (change_stays cells first count _ (λ _ _. refl))) sound.full;
   }
     where
       same : (number_of : Cell → Option ℕ) → ((i : ℕ) → number_of (backed m.backing m.perm i) ≡ None) → (n : ℕ) → owners number_of next n ≡ owners number_of st n

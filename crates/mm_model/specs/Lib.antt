@@ -7,3 +7,5 @@ pub mod Backing
 pub mod Accesses
 pub mod Levels
 pub mod Placing
+pub mod Served
+pub mod Fronts

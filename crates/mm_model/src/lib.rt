@@ -3,6 +3,7 @@
 
 mod access;
 mod accesses;
+mod fronts;
 mod mapping;
 mod owners;
 mod plain;

@@ -104,6 +104,19 @@ impl Mapping {
 }
 
 impl Plain {
+    /// Notes how far a thread's arena in a space is full, so that no search goes over these pages again.
+    fn note_full_pages(&mut self, thread: u8, space: u8)
+        requires thread { thread < 8 }
+        requires space { space < 64 }
+        ensures { self.new ≡ self.old }
+    {
+        if let Some(cells) = self.spaces.get(space) {
+            let known = self.fronts.get(space, thread);
+            let full = cells.full_pages(thread, known);
+            self.fronts.set(space, thread, full);
+        }
+    }
+
     /// The first page of a mapping, or the reply that refuses it.
     fn place(&self, thread: u8, mapping: &Mapping, limbo: u32) -> Result<u64, Reply>
         requires thread { thread < 8 }
@@ -112,18 +125,19 @@ impl Plain {
         ensures placed { IfOk result (λ first. IsPlaced self.now thread mapping.now limbo first) }
     {
         let spaces = &self.spaces;
+        let space = mapping.space.number();
         if !mapping.is_right() {
             return Err(Reply::Einval);
         }
-        let Some(cells) = spaces.get(mapping.space.number()) else {
+        let Some(cells) = spaces.get(space) else {
             return Err(Reply::NoSpace);
         };
         let count = pages(mapping.len);
-        let Some(first) = cells.gap(thread, count) else {
+        let Some(first) = cells.gap(thread, self.fronts.get(space, thread), count) else {
             return Err(Reply::NoRoom);
         };
         let linked = self.tables.len() as u32;
-        let need = self.tables.need(mapping.space.number(), first, count);
+        let need = self.tables.need(space, first, count);
         if u64::from(linked) + need + u64::from(limbo) > u64::from(self.limits.tables) {
             return Err(Reply::NoTables {
                 linked,
@@ -135,7 +149,7 @@ impl Plain {
     }
 
     /// Maps pages at the least gap of a thread's arena.
-    pub(crate) fn map_any(
+    fn map_at_gap(
         &mut self,
         alloc: Global,
         thread: u8,
@@ -154,5 +168,22 @@ impl Plain {
             }
             Err(refused) => Ok(refused),
         }
+    }
+
+    /// The same, where no search goes over the pages again by which the arena is full from its beginning.
+    pub(crate) fn map_any(
+        &mut self,
+        alloc: Global,
+        thread: u8,
+        mapping: &Mapping,
+        limbo: u32,
+    ) -> Result<Reply, AllocError>
+        requires thread { thread < 8 }
+        requires legal { linked self.old + limbo ≤ self.old.limits.tables }
+        ensures ok { IfOk result (λ reply. (reply, self.new) ≡ step self.old thread (call_of mapping.now) limbo) }
+        ensures err { OnErr result (self.new ≡ self.old) }
+    {
+        self.note_full_pages(thread, mapping.space.number());
+        self.map_at_gap(alloc, thread, mapping, limbo)
     }
 }

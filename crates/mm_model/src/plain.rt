@@ -5,6 +5,7 @@ ghost use Rattle.std.specs.FinMap as map;
 ghost use Rattle.page_map.specs.Cell.{status_of};
 ghost use Rattle.page_map.specs.State.{IsWithinLimits, start, linked, accounts};
 
+use crate::fronts::Fronts;
 use crate::owners::Owners;
 use crate::space::AddressSpace;
 use crate::spaces::Spaces;
@@ -23,6 +24,7 @@ pub struct Plain {
     pub(crate) limits: Limits,
     pub(crate) frames: Owners,
     pub(crate) slots: Owners,
+    pub(crate) fronts: Fronts,
 }
 
 impl Model for Plain {
@@ -37,7 +39,7 @@ impl Model for Plain {
 
     ghost view = { λ a. record { spaces = a.spaces; tables = a.tables; limits = a.limits; files = [] } };
 
-    ghost invariant = { λ a. IsSound (record { spaces = a.spaces; tables = a.tables; limits = a.limits; files = [] }) a.frames a.slots };
+    ghost invariant = { λ a. IsSound (record { spaces = a.spaces; tables = a.tables; limits = a.limits; files = [] }) a.frames a.slots a.fronts };
 }
 
 /// The page table at the top of space 0.
@@ -63,6 +65,7 @@ impl Plain {
             limits,
             frames: Owners::new(alloc, limits.frames)?,
             slots: Owners::new(alloc, limits.swap)?,
+            fronts: Fronts::new(alloc)?,
         })
     }
 

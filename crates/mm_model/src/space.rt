@@ -8,9 +8,10 @@ ghost use Rattle.std.specs.FinMap as map;
 ghost use Rattle.table_place.specs.Range.{within};
 ghost use Rattle.page_map.specs.Cell.{status_of};
 ghost use Rattle.page_map.specs.Change.{change};
-ghost use Rattle.page_map.specs.Mapping.{backed, gap, is_free};
+ghost use Rattle.page_map.specs.Mapping.{arena_first, backed, gap, is_free};
 ghost use Rattle.mm_model.specs.Backing.{index_of};
 ghost use Rattle.mm_model.specs.Lending.{LendsCell};
+ghost use Rattle.mm_model.specs.Fronts.{IsFull};
 
 use corten_base::{Backing, Perm, Status};
 use page_map::Cell;
@@ -107,15 +108,37 @@ impl AddressSpace {
         to_status(self.cells.get(&page))
     }
 
-    /// The least page of a thread's arena from which on so many pages of the arena have no cell.
-    pub fn gap(&self, thread: u8, count: u64) -> Option<u64>
-        requires { thread < 8 }
+    /// How many pages from the beginning of a thread's arena on have cells, where `known` of them are known to.
+    pub fn full_pages(&self, thread: u8, known: u32) -> u32
+        requires thread { thread < 8 }
+        requires known { IsFull self.now thread known }
+        ensures full { IsFull self.now thread result }
+        ensures stops { result < 2 ^ 27 → map.get self.now (arena_first thread + result) ≡ None }
+    {
+        let first = (u64::from(thread) + 1) * ARENA_PAGES;
+        let end = first + ARENA_PAGES;
+        let mut next = first + u64::from(known);
+        for (page, _) in self.cells.range(next..end) {
+            if *page > next {
+                return (next - first) as u32;
+            }
+            next = *page + 1;
+        }
+        (next - first) as u32
+    }
+
+    /// The least page of a thread's arena from which on so many pages of the arena have no cell, where `known` pages
+    /// from the beginning of the arena on are known to have cells.
+    pub fn gap(&self, thread: u8, known: u32, count: u64) -> Option<u64>
+        requires thread { thread < 8 }
+        requires known { IsFull self.now thread known }
+        requires some { 0 < count }
         ensures { result ≡ gap thread self.now count }
     {
         let first = (u64::from(thread) + 1) * ARENA_PAGES;
         let end = first + ARENA_PAGES;
-        let mut start = first;
-        for (page, _) in self.cells.range(first..end) {
+        let mut start = first + u64::from(known);
+        for (page, _) in self.cells.range(start..end) {
             if *page - start >= count {
                 return Some(start);
             }

@@ -11,8 +11,8 @@ unfolding start
 invariant_of-result c =
     let spaces = c.spaces.view_is ∙ c.in_ok-insert.ensures.ok ∙ (λ i. map.insert (c.new-spaces.ensures i) 0 (c.new.ensures i)) in
     let tables = c.tables.view_is ∙ c.in_ok-insert-2.ensures.ok ∙ ap (λ s. set.insert s (record { space = 0; level = 4; prefix = 0 })) c.new-tables.ensures in
-    let P : State × List ℕ × List ℕ → Type 0 = λ x. IsSound x.0 x.1 x.2 in
-    subst P (λ i. (record { spaces = sym spaces i; tables = sym tables i; limits = c.args.limits; files = [] }, sym c.in_ok-new.ensures i, sym c.in_ok-new-2.ensures i))
+    let P : State × List ℕ × List ℕ × List ℕ → Type 0 = λ x. IsSound x.0 x.1 x.2 x.3 in
+    subst P (λ i. (record { spaces = sym spaces i; tables = sym tables i; limits = c.args.limits; files = [] }, sym c.in_ok-new.ensures i, sym c.in_ok-new-2.ensures i, sym c.in_ok-new-3.ensures i))
     (start_is_sound c.args.limits c.requires)
 
 pub returns : goal.returns

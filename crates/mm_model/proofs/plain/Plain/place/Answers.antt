@@ -22,7 +22,7 @@ pub returns-in_default-clause-refused : goal.returns-in_default-clause-refused
 returns-in_default-clause-refused c =
     sym (ap (λ st. refusal st c.args.thread (call_of c.args.mapping.now) c.args.limbo) c.self.view_is)
     ∙ no_space_there _ c.args.thread c.args.mapping.now c.args.limbo (sym c.is_right.ensures ∙ c.if-not-is_right.false)
-    (ap is_some (ap (map.get c.self.inside.spaces) (sym c.number.ensures.value) ∙ sym c.get.ensures ∙ ap option_copied c.in_default.is))
+    (ap is_some (ap (map.get c.self.inside.spaces) (sym c.number-space.ensures.value) ∙ sym c.get.ensures ∙ ap option_copied c.in_default.is))
 
 pub returns-in_default-gap-clause-refused : goal.returns-in_default-gap-clause-refused
 returns-in_default-gap-clause-refused c =
@@ -30,8 +30,8 @@ returns-in_default-gap-clause-refused c =
     let st : State = record { spaces = c.self.inside.spaces; tables = c.self.inside.tables; limits = c.self.inside.limits; files = [] } in
     sym (ap (λ st. refusal st c.args.thread (call_of m) c.args.limbo) c.self.view_is)
     ∙ no_gap_there st c.args.thread m c.args.limbo (sym c.is_right.ensures ∙ c.if-not-is_right.false)
-    (is_there st c.args.thread m c.args.limbo c.number.result c.pages-count.result c.in-Some.cells.now c.number.ensures.value c.in-Some.ensures)
-    (gap_there st c.args.thread m c.args.limbo c.number.result c.pages-count.result c.in-Some.cells.now c.number.ensures.value c.in-Some.ensures
+    (is_there st c.args.thread m c.args.limbo c.number-space.result c.pages-count.result c.in-Some.cells.now c.number-space.ensures.value c.in-Some.ensures)
+    (gap_there st c.args.thread m c.args.limbo c.number-space.result c.pages-count.result c.in-Some.cells.now c.number-space.ensures.value c.in-Some.ensures
     c.gap.result c.pages-count.ensures c.gap.ensures ∙ c.in_default-gap.is)
 
 pub need-need-requires-clause-fits : goal.need-need-requires-clause-fits
@@ -49,12 +49,12 @@ pub returns-then-from-need-clause-refused : goal.returns-then-from-need-clause-r
 returns-then-from-need-clause-refused c =
     let m = c.args.mapping.now in
     let st : State = record { spaces = c.self.inside.spaces; tables = c.self.inside.tables; limits = c.self.inside.limits; files = [] } in
-    let n = missing st.tables c.number-2.result m.space c.in-Some-gap.first c.pages-count.result m.len c.need-need.result c.number-2.ensures.value c.pages-count.ensures c.need-need.ensures.value in
+    let n = missing st.tables c.number-space.result m.space c.in-Some-gap.first c.pages-count.result m.len c.need-need.result c.number-space.ensures.value c.pages-count.ensures c.need-need.ensures.value in
     sym (ap (λ st. refusal st c.args.thread (call_of m) c.args.limbo) c.self.view_is)
     ∙ no_tables_there st c.args.thread m c.args.limbo (sym c.is_right.ensures ∙ c.if-not-is_right.false)
-    (is_there st c.args.thread m c.args.limbo c.number.result c.pages-count.result c.in-Some.cells.now c.number.ensures.value c.in-Some.ensures)
+    (is_there st c.args.thread m c.args.limbo c.number-space.result c.pages-count.result c.in-Some.cells.now c.number-space.ensures.value c.in-Some.ensures)
     c.in-Some-gap.first
-    (gap_there st c.args.thread m c.args.limbo c.number.result c.pages-count.result c.in-Some.cells.now c.number.ensures.value c.in-Some.ensures
+    (gap_there st c.args.thread m c.args.limbo c.number-space.result c.pages-count.result c.in-Some.cells.now c.number-space.ensures.value c.in-Some.ensures
     c.gap.result c.pages-count.ensures c.gap.ensures ∙ c.in-Some-gap.is)
     (omega (arith, c.if-from-need.true, c.from.ensures, c.from-2.ensures, c.from-3.ensures, c.len-linked.ensures, n))
     ∙ (λ i. Some (reply.NoTables (sym c.len-linked.ensures i) c.args.limbo (sym n i)))
@@ -63,12 +63,12 @@ pub returns-clause-placed : goal.returns-clause-placed
 returns-clause-placed c =
     let m = c.args.mapping.now in
     let st : State = record { spaces = c.self.inside.spaces; tables = c.self.inside.tables; limits = c.self.inside.limits; files = [] } in
-    let n = missing st.tables c.number-2.result m.space c.in-Some-gap.first c.pages-count.result m.len c.need-need.result c.number-2.ensures.value c.pages-count.ensures c.need-need.ensures.value in
-    let at_gap = gap_there st c.args.thread m c.args.limbo c.number.result c.pages-count.result c.in-Some.cells.now c.number.ensures.value c.in-Some.ensures
+    let n = missing st.tables c.number-space.result m.space c.in-Some-gap.first c.pages-count.result m.len c.need-need.result c.number-space.ensures.value c.pages-count.ensures c.need-need.ensures.value in
+    let at_gap = gap_there st c.args.thread m c.args.limbo c.number-space.result c.pages-count.result c.in-Some.cells.now c.number-space.ensures.value c.in-Some.ensures
     c.gap.result c.pages-count.ensures c.gap.ensures ∙ c.in-Some-gap.is in
     subst (λ st. IsPlaced st c.args.thread m c.args.limbo c.in-Some-gap.first) c.self.view_is (record {
       passes = passes st c.args.thread m c.args.limbo (sym c.is_right.ensures ∙ c.if-not-is_right.false)
-          (is_there st c.args.thread m c.args.limbo c.number.result c.pages-count.result c.in-Some.cells.now c.number.ensures.value c.in-Some.ensures)
+          (is_there st c.args.thread m c.args.limbo c.number-space.result c.pages-count.result c.in-Some.cells.now c.number-space.ensures.value c.in-Some.ensures)
           c.in-Some-gap.first at_gap
           (omega (arith, c.if-from-need.false, c.from.ensures, c.from-2.ensures, c.from-3.ensures, c.len-linked.ensures, n));
       at_gap = at_gap;

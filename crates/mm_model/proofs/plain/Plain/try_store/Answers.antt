@@ -43,13 +43,13 @@ returns-in_default-clause-refused c =
     (sym (λ i. map.get (c.self.view_is i).spaces (c.number.ensures.value i)) ∙ sym c.in_default.ensures.value)
 
 pub store-requires-clause-whole : goal.store-requires-clause-whole
-store-requires-clause-whole c = whole_here (before (goal.at.store-requires-clause-whole c).After-get_mut) refl _ _ c.self.invariant c.number.result c.in-Some.cells.now (sym c.in-Some.ensures.value)
+store-requires-clause-whole c = whole_here (before (goal.at.store-requires-clause-whole c).After-get_mut) refl _ _ _ c.self.invariant c.number.result c.in-Some.cells.now (sym c.in-Some.ensures.value)
 
 pub store-requires-clause-frames : goal.store-requires-clause-frames
-store-requires-clause-frames c = frames_here (before (goal.at.store-requires-clause-frames c).After-get_mut) refl _ _ c.self.invariant c.number.result c.in-Some.cells.now (sym c.in-Some.ensures.value)
+store-requires-clause-frames c = frames_here (before (goal.at.store-requires-clause-frames c).After-get_mut) refl _ _ _ c.self.invariant c.number.result c.in-Some.cells.now (sym c.in-Some.ensures.value)
 
 pub store-requires-clause-slots : goal.store-requires-clause-slots
-store-requires-clause-slots c = slots_here (before (goal.at.store-requires-clause-slots c).After-get_mut) refl _ _ c.self.invariant c.number.result c.in-Some.cells.now (sym c.in-Some.ensures.value)
+store-requires-clause-slots c = slots_here (before (goal.at.store-requires-clause-slots c).After-get_mut) refl _ _ _ c.self.invariant c.number.result c.in-Some.cells.now (sym c.in-Some.ensures.value)
 
 -- the spaces afterwards
 abbrev lent : (c : After-store) → c.get_mut.follows.lender c.store.new.self ≡ map.insert c.self.inside.spaces c.number.result c.store.new.self
@@ -58,16 +58,16 @@ lent c = subst (λ o. OnSome o (c.get_mut.follows.lender c.store.new.self ≡ ma
 pub invariant_of-self-2 : goal.invariant_of-self-2
 invariant_of-self-2 c =
     let at = goal.at.invariant_of-self-2 c in
-    subst (λ spaces. IsSound (record (before at.After-get_mut) { spaces = spaces }) c.store.new.frames c.store.new.slots) (sym (lent at.After-store))
+    subst (λ spaces. IsSound (record (before at.After-get_mut) { spaces = spaces }) c.store.new.frames c.store.new.slots c.self.inside.fronts) (sym (lent at.After-store))
     (go c.store.result c.store.ensures.made c.store.ensures.kept)
   where
     go : (r : Result Reply Stop) → OnOk r (Makes (storing c.in_ok-access.access.at c.bytes-stored.result.now) c.in-Some.cells.now c.store.new.self c.self.inside.frames c.store.new.frames c.self.inside.slots c.store.new.slots) →
         OnErr r (Keeps c.in-Some.cells.now c.store.new.self c.self.inside.frames c.store.new.frames c.self.inside.slots c.store.new.slots) →
-        IsSound (record { spaces = map.insert c.self.inside.spaces c.number.result c.store.new.self; tables = c.self.inside.tables; limits = c.self.inside.limits; files = [] }) c.store.new.frames c.store.new.slots
-    go (Ok r) m k = stays_sound (before (goal.at.invariant_of-self-2 c).After-get_mut) refl _ _ c.self.invariant c.number.result c.in-Some.cells.now (sym c.in-Some.ensures.value)
+        IsSound (record { spaces = map.insert c.self.inside.spaces c.number.result c.store.new.self; tables = c.self.inside.tables; limits = c.self.inside.limits; files = [] }) c.store.new.frames c.store.new.slots c.self.inside.fronts
+    go (Ok r) m k = stays_sound (before (goal.at.invariant_of-self-2 c).After-get_mut) refl _ _ _ c.self.invariant c.number.result c.in-Some.cells.now (sym c.in-Some.ensures.value)
         (call.Store c.number.result c.args.at c.args.bytes.now) (storing c.args.at c.args.bytes.now) (store_access _ c.number.result c.args.at c.args.bytes.now) (user (goal.at.invariant_of-self-2 c).In_ok-access) c.store.new.self c.store.new.frames c.store.new.slots
         (subst (λ a. Makes a c.in-Some.cells.now c.store.new.self c.self.inside.frames c.store.new.frames c.self.inside.slots c.store.new.slots) (λ i. storing (access_is (goal.at.invariant_of-self-2 c).In_ok-access i).at (c.bytes-stored.ensures.value i)) m)
-    go (Err e) m k = same_sound (before (goal.at.invariant_of-self-2 c).After-get_mut) refl _ _ c.self.invariant c.number.result c.in-Some.cells.now (sym c.in-Some.ensures.value)
+    go (Err e) m k = same_sound (before (goal.at.invariant_of-self-2 c).After-get_mut) refl _ _ _ c.self.invariant c.number.result c.in-Some.cells.now (sym c.in-Some.ensures.value)
         (call.Store c.number.result c.args.at c.args.bytes.now) (storing c.args.at c.args.bytes.now) (store_access _ c.number.result c.args.at c.args.bytes.now) (user (goal.at.invariant_of-self-2 c).In_ok-access) c.store.new.self c.store.new.frames c.store.new.slots k
 
 pub returns-clause-ok : goal.returns-clause-ok
@@ -80,7 +80,7 @@ returns-clause-ok c = go c.store.result c.store.ensures.reply c.store.ensures.ma
         let at = goal.at.returns-clause-ok c in
         accepts_named (before at.After-get_mut) c.args.self.now c.self.view_is c.number.result c.args.space c.number.ensures.value (λ n. call.Store n c.args.at c.args.bytes.now) _ _
         (λ i. record (before at.After-get_mut) { spaces = lent at.After-store i }) r
-        (accepts (before at.After-get_mut) refl _ _ c.self.invariant c.number.result c.in-Some.cells.now (sym c.in-Some.ensures.value)
+        (accepts (before at.After-get_mut) refl _ _ _ c.self.invariant c.number.result c.in-Some.cells.now (sym c.in-Some.ensures.value)
         (call.Store c.number.result c.args.at c.args.bytes.now) (storing c.args.at c.args.bytes.now) (store_access _ c.number.result c.args.at c.args.bytes.now) (user (goal.at.returns-clause-ok c).In_ok-access) c.store.new.self c.store.new.frames c.store.new.slots
         (subst (λ a. Makes a c.in-Some.cells.now c.store.new.self c.self.inside.frames c.store.new.frames c.self.inside.slots c.store.new.slots) (λ i. storing (access_is (goal.at.returns-clause-ok c).In_ok-access i).at (c.bytes-stored.ensures.value i)) m) r
         (λ thread. b ∙ store_answer (before at.After-get_mut) thread c.number.result c.args.at c.args.bytes.now))
@@ -94,7 +94,7 @@ returns-clause-refused c = go c.store.result c.store.ensures.refused
     go (Ok r) h = tt
     go (Err e) h = IfSome_then _ h (λ r is.
         refuses_named (before (goal.at.returns-clause-refused c).After-get_mut) c.args.self.now c.self.view_is c.number.result c.args.space c.number.ensures.value (λ n. call.Store n c.args.at c.args.bytes.now) r
-        (refuses_inside (before (goal.at.returns-clause-refused c).After-get_mut) refl _ _ c.self.invariant c.number.result c.in-Some.cells.now (sym c.in-Some.ensures.value)
+        (refuses_inside (before (goal.at.returns-clause-refused c).After-get_mut) refl _ _ _ c.self.invariant c.number.result c.in-Some.cells.now (sym c.in-Some.ensures.value)
         (call.Store c.number.result c.args.at c.args.bytes.now) (storing c.args.at c.args.bytes.now) (store_access _ c.number.result c.args.at c.args.bytes.now) (user (goal.at.returns-clause-refused c).In_ok-access) r
         (ap (refused_in [] c.in-Some.cells.now c.self.inside.frames) (sym (access_is (goal.at.returns-clause-refused c).In_ok-access)) ∙ is)))
 
@@ -107,6 +107,6 @@ returns-clause-kept c = go c.store.result c.store.ensures.kept
     go (Err e) k =
         let at = goal.at.returns-clause-kept c in
         (λ i. record (before at.After-get_mut) { spaces = lent at.After-store i })
-        ∙ same_state (before at.After-get_mut) refl _ _ c.self.invariant c.number.result c.in-Some.cells.now (sym c.in-Some.ensures.value)
+        ∙ same_state (before at.After-get_mut) refl _ _ _ c.self.invariant c.number.result c.in-Some.cells.now (sym c.in-Some.ensures.value)
         (call.Store c.number.result c.args.at c.args.bytes.now) (storing c.args.at c.args.bytes.now) (store_access _ c.number.result c.args.at c.args.bytes.now) (user (goal.at.returns-clause-kept c).In_ok-access) c.store.new.self c.store.new.frames c.store.new.slots k
         ∙ c.self.view_is

@@ -2,17 +2,21 @@ use Rattle.std.proofs.Common.{◌+◌, ◌*◌, refl, ap, sym, subst, ◌∙◌,
 use Rattle.std.specs.Prelude.{IsSome}
 use Rattle.page_map.specs.Mapping.{gap}
 use Rattle.mm_model.proofs.Gaps.{HasBetween, Ascends, has_range, ascends_range, next_from, next_below, next_there, none_before, has_after, rest_ascends, end_from, none_left, gap_is, no_gap, skips}
+use Rattle.mm_model.proofs.Free.{taken_range}
 use Rattle.mm_model.proofs.space.AddressSpace.gap.Goals as goal
 
 pub loop-page-init : goal.loop-page-init
 loop-page-init c =
     let first = (c.from.result + 1) * 134217728 in
+    let start = first + c.from-2.result in
     let range = sym (c.into_iter-page-iterator.ensures.into_iter_gives ∙ c.range-page-items.ensures.between tt) in
     record {
       low = omega arith;
-      has = subst (λ es. HasBetween c.args.self.now first (first + 134217728) es) range (has_range first (first + 134217728) c.self.inside.cells c.args.self.now c.self.view_is);
-      in_order = subst (λ es. Ascends first (first + 134217728) es) range (ascends_range first (first + 134217728) (omega arith) c.self.inside.cells.entries c.range-page-items.ensures.ordered);
-      skipped = λ s a b. absurd (omega (arith, a, b));
+      has = subst (λ es. HasBetween c.args.self.now start (first + 134217728) es) range (has_range start (first + 134217728) c.self.inside.cells c.args.self.now c.self.view_is);
+      in_order = subst (λ es. Ascends start (first + 134217728) es) range
+          (ascends_range start (first + 134217728) (omega (arith, c.from-2.ensures, c.requires.known.within)) c.self.inside.cells.entries c.range-page-items.ensures.ordered);
+      skipped = λ s a b. taken_range c.args.self.now s c.args.count s (omega arith) (omega (arith, c.requires.some))
+          (c.requires.known.cells_there s (omega (arith, a, c.from.ensures)) (omega (arith, b, c.from.ensures, c.from-2.ensures)));
     }
 
 pub overflow_sub-page : goal.overflow_sub-page

@@ -6,7 +6,7 @@ use Rattle.page_map.proofs.Steps.{refused}
 use Rattle.mm_model.specs.Plain.{IsSound}
 use Rattle.mm_model.specs.Placing.{call_of, IsPlaced}
 use Rattle.mm_model.proofs.Placed.{some_len, index_fits, range_fits, present, free, step_is, stays_sound}
-use Rattle.mm_model.proofs.plain.Plain.map_any.Goals as goal
+use Rattle.mm_model.proofs.plain.Plain.map_at_gap.Goals as goal
 
 pub fill_space-requires-clause-some : goal.fill_space-requires-clause-some
 fill_space-requires-clause-some c = some_len c.args.self.now c.args.thread c.args.mapping.now c.args.limbo c.in-Ok.first c.requires.thread c.in-Ok.ensures.placed
@@ -37,9 +37,9 @@ invariant_of-self-in-Ok c =
     let st : State = record { spaces = c.self.inside.spaces; tables = c.self.inside.tables; limits = c.self.inside.limits; files = [] } in
     let placed = subst (λ st. IsPlaced st c.args.thread c.args.mapping.now c.args.limbo c.in-Ok.first) (sym c.self.view_is) c.in-Ok.ensures.placed in
     let after = c.in_ok-fill_space-in-Ok.ensures in
-    subst (λ (n : State). IsSound n c.self.inside.frames c.self.inside.slots)
+    subst (λ (n : State). IsSound n c.self.inside.frames c.self.inside.slots c.self.inside.fronts)
     (λ i. record { spaces = sym after.spaces_after i; tables = sym after.tables_after i; limits = c.self.inside.limits; files = [] })
-    (stays_sound st c.args.thread c.args.mapping.now c.args.limbo c.in-Ok.first c.requires.thread placed c.self.inside.frames c.self.inside.slots c.self.invariant)
+    (stays_sound st c.args.thread c.args.mapping.now c.args.limbo c.in-Ok.first c.requires.thread placed c.self.inside.frames c.self.inside.slots c.self.inside.fronts c.self.invariant)
 
 pub returns-in_ok-fill_space-in-Ok-clause-ok : goal.returns-in_ok-fill_space-in-Ok-clause-ok
 returns-in_ok-fill_space-in-Ok-clause-ok c =
