@@ -18,8 +18,8 @@ use Rattle.page_map.proofs.Range.{inside, outside, get-change, change_is}
 use Rattle.page_map.proofs.Owners.{same_some}
 use Rattle.mm_model.specs.Reach.{last_page, beyond, given, brought}
 use Rattle.mm_model.specs.Wants.{want_of, is_wanting, Suits}
-use Rattle.mm_model.specs.declared.access.Want.{Want}
-use Rattle.mm_model.specs.declared.access.Want.TheVariants.{Nothing, Frame}
+use Rattle.mm_model.specs.declared.plan.Want.{Want}
+use Rattle.mm_model.specs.declared.plan.Want.TheVariants.{Nothing, Frame}
 use Rattle.mm_model.proofs.Reach.{one_or_two}
 
 -- what a page wants suits it

@@ -16,8 +16,8 @@ use Rattle.page_map.proofs.Range.{change_more, change_none}
 use Rattle.page_map.proofs.Weights.{weight_insert}
 use Rattle.mm_model.specs.Reach.{given, carried, one_at, Leaves, Follows}
 use Rattle.mm_model.specs.Wants.{is_wanting, Suits}
-use Rattle.mm_model.specs.declared.access.Want.{Want}
-use Rattle.mm_model.specs.declared.access.Want.TheVariants.{Nothing, Frame, Body}
+use Rattle.mm_model.specs.declared.plan.Want.{Want}
+use Rattle.mm_model.specs.declared.plan.Want.TheVariants.{Nothing, Frame, Body}
 
 module _ {X : Type 0} where
   -- a map in which one key was put back

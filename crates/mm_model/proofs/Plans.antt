@@ -24,8 +24,8 @@ use Rattle.page_map.proofs.Owners.{one_weight, same_some}
 use Rattle.mm_model.specs.Owners.{unused_of}
 use Rattle.mm_model.specs.Reach.{last_page, beyond, wants, wanting, lack, refused_in, carried, IsCounted}
 use Rattle.mm_model.specs.Wants.{want_of, is_wanting}
-use Rattle.mm_model.specs.declared.access.Want.{Want}
-use Rattle.mm_model.specs.declared.access.Want.TheVariants.{Nothing, Frame}
+use Rattle.mm_model.specs.declared.plan.Want.{Want}
+use Rattle.mm_model.specs.declared.plan.Want.TheVariants.{Nothing, Frame}
 use Rattle.mm_model.proofs.Reach.{earliest_one, earliest_two, one_or_two}
 use Rattle.mm_model.proofs.Tally.{counted}
 

@@ -15,9 +15,9 @@ use Rattle.page_map.specs.Access.{first_page}
 use Rattle.mm_model.specs.Reach.{last_page, beyond}
 use Rattle.mm_model.specs.declared.access.Stop.{Stop}
 use Rattle.mm_model.specs.declared.access.Stop.TheVariants.{Refused, NoMemory}
-use Rattle.mm_model.specs.declared.access.Want.{Want}
-use Rattle.mm_model.specs.declared.access.Want.TheVariants.{Nothing, Frame, Body}
-use Rattle.mm_model.specs.declared.access.Plan.{Plan}
+use Rattle.mm_model.specs.declared.plan.Want.{Want}
+use Rattle.mm_model.specs.declared.plan.Want.TheVariants.{Nothing, Frame, Body}
+use Rattle.mm_model.specs.declared.plan.Plan.{Plan}
 
 abbrev pub want_of : List (List ℕ) → (ℕ → ℕ) → Bool → Cell → Want
 want_of files owners write (Mapped perm frame bytes) = cond (write && not (nat_eq (owners frame) 1)) Frame Nothing

@@ -7,6 +7,7 @@ mod fronts;
 mod mapping;
 mod owners;
 mod plain;
+mod plan;
 mod space;
 mod spaces;
 mod tables;
