@@ -10,6 +10,11 @@ mod plain;
 mod plan;
 mod space;
 mod spaces;
+mod step;
 mod tables;
 
 pub use plain::Plain;
+pub use step::StepFault;
+
+#[cfg(test)]
+mod tests;

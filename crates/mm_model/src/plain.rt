@@ -53,7 +53,8 @@ impl Plain {
     /// The machine in which space 0 is present and empty.
     pub fn new(alloc: Global, limits: Limits) -> Result<Plain, AllocError>
         requires { IsWithinLimits limits }
-        ensures { IfOk result (λ plain. plain ≡ start limits []) }
+        ensures ok { IfOk result (λ plain. plain ≡ start limits []) }
+        ensures fits { IfOk result (λ plain. linked plain ≤ plain.limits.tables) }
     {
         let mut spaces = Spaces::new(alloc);
         spaces.insert(0, AddressSpace::new(alloc))?;
