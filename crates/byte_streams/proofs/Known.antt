@@ -29,10 +29,13 @@ written_more held held1 held2 bytes rest n count bound is before fits after = (i
   where
     long : length rest ≡ length bytes - n
     long = ap length is ∙ length-drop n bytes
+
     inside : n + count ≤ length bytes
     inside = omega (arith, long)
+
     drops : drop count rest ≡ drop (n + count) bytes
     drops = ap (drop count) is ∙ drop-drop count n bytes
+
     appended : held2 ≡ append_known held (take (n + count) bytes)
     appended =
         after ∙ ap (λ h. append_known h (take count rest)) before ∙ append_twice held (take n bytes) (take count rest)

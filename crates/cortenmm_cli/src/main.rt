@@ -5,10 +5,9 @@ mod standard;
 
 use corten_run::corten_plain;
 use standard::{StdSink, StdSource};
-use std::env;
-use std::io;
 use std::process::ExitCode;
 use std::rt::Env;
+use std::{env, io};
 
 /// The words after the program's name.
 fn words_of<R: Env + AllocGlobal>(rt: &R) -> io::Result<Vec<String>> {
@@ -34,10 +33,5 @@ fn main(rt: HostRuntime) -> ExitCode {
         output: rt.stdout(),
         faults: 0,
     };
-    ExitCode::from(corten_plain(
-        rt.alloc(),
-        words.as_slice(),
-        &mut source,
-        &mut sink,
-    ))
+    ExitCode::from(corten_plain(rt.alloc(), words.as_slice(), &mut source, &mut sink))
 }
