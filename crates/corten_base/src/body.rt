@@ -66,7 +66,8 @@ impl Body {
         out.copy_from_slice(&self.bytes()[start..start + out.len()]);
     }
 
-    /// Makes the body a shared one, and a second one that shares its bytes. An own body's buffer is handed back.
+    /// Makes the body a shared one, and a second one that shares its bytes. An own body's buffer is handed back. It takes
+    /// the memory of one page where the body was an own one, and else none.
     pub fn share(&mut self, alloc: Global) -> Result<(Body, Option<PageBuf>), AllocError>
         ensures shared { IfOk result (λ pair. (self.new ≡ record { bytes = self.old.bytes; own = false }) × (pair.0 ≡ self.new)) }
         ensures given_back { IfOk result (λ pair. pair.1 ≡ (if self.old.own then Some self.old.bytes else None)) }

@@ -101,6 +101,7 @@ fn lists_keep_what_they_are_made_of(rt: HostRuntime) -> Result<(), Fail> {
         call: call.clone()?,
         reply: Reply::Ok,
     };
+    moves_between_threads(&entry);
     let entries = EntryList::of(vec![in rt.alloc(); entry.clone()?]?);
     assert_eq!(rt; entries.list(), [entry].as_slice());
     let calls = CallList::of(vec![in rt.alloc(); call.clone()?]?);
