@@ -1,0 +1,13 @@
+//! The machine of atomic steps, as plain data.
+#![tactic(auto)]
+
+mod event;
+mod lists;
+mod pass;
+mod state;
+
+pub use event::{Event, SetPart};
+pub use lists::{PutList, PutRow, RowList};
+pub use pass::{GrantedRow, PassCore, SampleBounds, Stand, UnlinkedRow};
+pub use state::RowState;
+pub use table_place::Place;
