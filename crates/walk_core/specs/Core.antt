@@ -73,7 +73,7 @@ unfoldable pub times_out : Core → ℕ → ℕ
 times_out c r = times r c.free + times r (limbo_rows c) + sum_by (times_in_hand r) c.passes
 
 pub record IsLinked (c : Core) (r : ℕ) : Type 0 where
-  pub inside : r < c.rows
+  pub there : r < c.rows
   pub in_tree : times_out c r ≡ 0
 
 -- the state of a row that is neither free nor in limbo, by the hands of the passes from the pass p on

@@ -35,11 +35,11 @@ pub record States (c : Core) : Type 0 where
 
 -- Locks
 
--- a row that the pass p holds is linked, or in the hand of p
-pub record IsHeld (c : Core) (p r : ℕ) : Type 0 where
-  pub inside : r < c.rows
+-- a row that the pass p, which has v, holds: it is linked, or in the hand of p
+pub record IsHeld (c : Core) (p : ℕ) (v : PassCore) (r : ℕ) : Type 0 where
+  pub there : r < c.rows
   pub shown : word c (lock_at r) ≡ held_by p
-  pub where_it_is : times_out c r ≡ times_in_hand r (pass_at c p)
+  pub in_hand : times_out c r ≡ times_in_hand r v
 
 -- what the lock word w of the row r may be: it is linked and free, some pass holds it, or nobody holds it and it is not linked
 pub data LockSays (c : Core) (r w : ℕ) : Type 0 where
@@ -48,7 +48,7 @@ pub data LockSays (c : Core) (r w : ℕ) : Type 0 where
   says_stale : w ≡ stale → 1 ≤ times_out c r → LockSays c r w
 
 pub record RowLocks (c : Core) : Type 0 where
-  pub held : (p r : ℕ) → Has (pass_at c p).held r → IsHeld c p r
+  pub held : (p r : ℕ) → Has (pass_at c p).held r → IsHeld c p (pass_at c p) r
   pub once : (p r : ℕ) → times r (pass_at c p).held ≤ 1
   pub each : (r : ℕ) → r < c.rows → LockSays c r (word c (lock_at r))
 
@@ -75,9 +75,9 @@ pub record IsTrueLink (c : Core) (r i w : ℕ) : Type 0 where
   pub generation : generation_in c (link_row w) ≡ link_generation w
   pub place : place_in c (link_row w) ≡ entry_place c.levels (place_in c r) i
 
--- the position word of a granted row that was set up is that of a table
+-- the place that the position word of a granted row shows, once it is set up, is one of a table
 abbrev pub IsPlaced : Core → GrantedRow → Type 0
-IsPlaced c g = g.has_position ≡ true → is_place c.levels (place_in c g.row) ≡ true
+IsPlaced c g = g.has_position ≡ true → (g.row < c.rows) × (is_place c.levels (place_in c g.row) ≡ true)
 
 -- Each row but row 0 is either out of the tree or named by one link, so a link names a linked row and no other link names it.
 pub record Links (c : Core) : Type 0 where

@@ -1,0 +1,59 @@
+-- What a good core says of a row's lock word and of who has it.
+use Rattle.std.proofs.Common.{◌≡◌, ◌≢◌, ℕ, ◌+◌, ◌*◌, ◌<◌, ◌≤◌, ◌==◌, ◌⊎◌, Bool, true, false, cond, List, length, get_or, set, sym, refl, ap, ◌∙◌, subst, inl, inr, ⊎_elim, arith, eq-eqb, ne_eqb}
+use Rattle.std.specs.List.{sum_by}
+use Rattle.std.proofs.lemmas.List.Sums.{get_or-le-sum_by}
+use Rattle.std.proofs.lemmas.Bool.{cases_lt}
+use lib.Seq.{set-get_or}
+use mathlib.Core.Logic.{dite}
+use native.Mathlib.Decide.{ℕ_discrete}
+use Rattle.walk_core.specs.declared.event.Event.{Event}
+use Rattle.walk_core.specs.declared.pass.PassCore.{PassCore}
+use Rattle.walk_core.specs.Words.{lock_at, book_at, held_by, stale}
+use Rattle.walk_core.specs.Lists.{times, Has}
+use Rattle.walk_core.specs.Core.{Core, word, pass_at, idle, limbo_rows, times_in_hand, times_out, IsLinked}
+use Rattle.walk_core.specs.Good.{Sizes, States, IsHeld, LockSays, says_free, says_held, says_stale, RowLocks, BookLock, Good}
+
+-- a row in a pass's hand is out of the tree
+pub hand-le-out : (c : Core) (p r : ℕ) → p < length c.passes → times_in_hand r (pass_at c p) ≤ times_out c r
+unfolding times_out
+hand-le-out c p r h = let some_part = get_or-le-sum_by (times_in_hand r) c.passes p idle h in omega arith
+
+-- the free rows, limbo and one hand are part of what is out of the tree
+pub parts-le-out : (c : Core) (p r : ℕ) → p < length c.passes → times r c.free + times r (limbo_rows c) + times_in_hand r (pass_at c p) ≤ times_out c r
+unfolding times_out
+parts-le-out c p r h = let some_part = get_or-le-sum_by (times_in_hand r) c.passes p idle h in omega arith
+
+pub out-le-one : {c : Core} → States c → (r : ℕ) → times_out c r ≤ 1
+out-le-one {c} g r = ⊎_elim (λ (less : r < c.rows). g.once r less) (λ past. let none_there = g.there r past in omega arith) (cases_lt r c.rows)
+
+module _ {c : Core} (g : RowLocks c) where
+  pub free_unheld : (r : ℕ) → word c (lock_at r) ≡ 0 → (q : ℕ) → times r (pass_at c q).held ≡ 0
+  free_unheld r zero q = dite (ℕ_discrete (times r (pass_at c q).held) 0) (λ z. z) (λ ne. let shown = (g.held q r (omega arith)).shown in absurd (omega arith))
+
+  pub free_linked : (r : ℕ) → r < c.rows → word c (lock_at r) ≡ 0 → IsLinked c r
+  free_linked r less zero = says (word c (lock_at r)) zero (g.each r less)
+    where
+      says : (n : ℕ) → n ≡ 0 → LockSays c r n → IsLinked c r
+      says n z (says_free free tree) = record { there = less; in_tree = tree }
+      says n z (says_held p shown has) = absurd (omega arith)
+      says n z (says_stale shown out) = absurd (omega arith)
+
+  -- a row that nobody else than its holder has
+  pub held_alone : (p r : ℕ) → Has (pass_at c p).held r → (q : ℕ) → q ≢ p → times r (pass_at c q).held ≡ 0
+  held_alone p r has q ne = dite (ℕ_discrete (times r (pass_at c q).held) 0) (λ z. z)
+      (λ some_list. let a = (g.held p r has).shown in let b = (g.held q r (omega arith)).shown in absurd (ne (omega arith)))
+
+  -- a row that a pass holds is linked if it is not in its hand
+  pub held_linked : (p r : ℕ) → Has (pass_at c p).held r → times_in_hand r (pass_at c p) ≡ 0 → IsLinked c r
+  held_linked p r has out = let h = g.held p r has in record { there = h.there; in_tree = h.in_hand ∙ out }
+
+  pub stale_unheld : (r : ℕ) → c.count ≤ 8 → length c.passes ≡ c.count → word c (lock_at r) ≡ stale → (q : ℕ) → q < c.count → times r (pass_at c q).held ≡ 0
+  stale_unheld r few long shown q less = dite (ℕ_discrete (times r (pass_at c q).held) 0) (λ z. z) (λ ne. let says = (g.held q r (omega arith)).shown in absurd (omega arith))
+
+-- a number is 0 or not, and its test says which
+pub tested : (n : ℕ) (F : Bool → Type 0) → (n ≡ 0 → F true) → (n ≢ 0 → F false) → F (n == 0)
+tested n F hit miss = dite (ℕ_discrete n 0) (λ e. subst F (sym (eq-eqb n 0 e)) (hit e)) (λ ne. subst F (sym (ne_eqb n 0 ne)) (miss ne))
+
+-- a step that changes nothing
+pub unchanged : (c : Core) (p k : ℕ) → record c { words = set c.words k (word c k); passes = set c.passes p (pass_at c p) } ≡ c
+unchanged c p k = λ i. record c { words = set-get_or c.words k 0 i; passes = set-get_or c.passes p idle i }

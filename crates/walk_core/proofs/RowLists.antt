@@ -1,0 +1,135 @@
+-- How many times a row stands in a list, and sums over the numbers below another.
+use Rattle.std.proofs.Common.{◌≡◌, ◌≢◌, ℕ, zero, suc, ◌+◌, ◌<◌, ◌≤◌, ◌==◌, Bool, true, false, cond, not, ◌&&◌, List, [], ◌∷◌, ◌++◌, map, length, sym, refl, ap, ◌∙◌, subst, eqb, ltb, arith, eq-eqb, ne_eqb}
+use Rattle.std.specs.List.{filter, sum_by, count_by}
+use Rattle.std.proofs.lemmas.List.Sums.{sum_by-cons, sum_by-append}
+use Rattle.std.proofs.lemmas.Bool.{lt-ltb, le-ltb, cases_eq}
+use mathlib.Core.Logic.{◌⊎◌}
+use mathlib.Core.Logic.{dite}
+use native.Mathlib.Decide.{ℕ_discrete}
+use Rattle.walk_core.specs.Lists.{times, Has, among, without, minus, sum_below}
+
+pub times-nil : (r : ℕ) → times r [] ≡ 0
+unfolding times
+times-nil r = refl
+
+pub times-cons : (r x : ℕ) (xs : List ℕ) → times r (x ∷ xs) ≡ cond (x == r) 1 0 + times r xs
+unfolding times
+times-cons r x xs = sum_by-cons (λ y. cond (y == r) 1 0) x xs
+
+pub times-cons_same : (r x : ℕ) (xs : List ℕ) → x ≡ r → times r (x ∷ xs) ≡ 1 + times r xs
+times-cons_same r x xs e = times-cons r x xs ∙ ap (λ (b : Bool). cond b 1 0 + times r xs) (eq-eqb x r e)
+
+pub times-cons_other : (r x : ℕ) (xs : List ℕ) → x ≢ r → times r (x ∷ xs) ≡ times r xs
+times-cons_other r x xs ne = let e = times-cons r x xs ∙ ap (λ (b : Bool). cond b 1 0 + times r xs) (ne_eqb x r ne) in omega arith
+
+pub times-append : (r : ℕ) (xs ys : List ℕ) → times r (xs ++ ys) ≡ times r xs + times r ys
+unfolding times
+times-append r xs ys = sum_by-append (λ y. cond (y == r) 1 0) xs ys
+
+pub times_one_same : (r x : ℕ) → x ≡ r → times r (x ∷ []) ≡ 1
+times_one_same r x e = let a = times-cons_same r x [] e in let b = times-nil r in omega arith
+
+pub times_one_other : (r x : ℕ) → x ≢ r → times r (x ∷ []) ≡ 0
+times_one_other r x ne = times-cons_other r x [] ne ∙ times-nil r
+
+-- with a row at the end
+pub times_push_same : (r x : ℕ) (xs : List ℕ) → x ≡ r → times r (xs ++ x ∷ []) ≡ times r xs + 1
+times_push_same r x xs e = times-append r xs (x ∷ []) ∙ ap (λ (n : ℕ). times r xs + n) (times_one_same r x e)
+
+pub times_push_other : (r x : ℕ) (xs : List ℕ) → x ≢ r → times r (xs ++ x ∷ []) ≡ times r xs
+times_push_other r x xs ne = let a = times-append r xs (x ∷ []) in let b = times_one_other r x ne in omega arith
+
+-- what a filter by the row keeps of a list of records with rows
+module _ {X : Type 0} (row : X → ℕ) (t : ℕ → Bool) (q : ℕ) where
+  filter_step : (x : X) (xs : List X) → times q (map row (filter (λ y. t (row y)) xs)) ≡ cond (t q) (times q (map row xs)) 0
+      → times q (map row (cond (t (row x)) (x ∷ filter (λ y. t (row y)) xs) (filter (λ y. t (row y)) xs))) ≡ cond (t q) (times q (row x ∷ map row xs)) 0
+  filter_step x xs before =
+      let kept : List X = filter (λ y. t (row y)) xs in
+      dite (ℕ_discrete (row x) q)
+      (λ e. let more = times-cons_same q (row x) (map row xs) e in
+      let F : Bool → Bool → Type 0 = λ a b. times q (map row (cond a (x ∷ kept) kept)) ≡ cond b (times q (row x ∷ map row xs)) 0 in
+      let G : Bool → Type 0 = λ b. times q (map row kept) ≡ cond b (times q (map row xs)) 0 → F b b in
+      let all : (b : Bool) → G b = λ b. elim b as G [ true ↦ λ h. let m = times-cons_same q (row x) (map row kept) e in omega arith | false ↦ λ h. h ] in
+      subst (λ (n : ℕ). F (t n) (t q)) (sym e) (all (t q) before))
+      (λ ne. let more = times-cons_other q (row x) (map row xs) ne in
+      let F : Bool → Type 0 = λ a. times q (map row (cond a (x ∷ kept) kept)) ≡ cond (t q) (times q (row x ∷ map row xs)) 0 in
+      let same : times q (map row kept) ≡ cond (t q) (times q (row x ∷ map row xs)) 0 = before ∙ ap (λ (n : ℕ). cond (t q) n 0) (sym more) in
+      elim (t (row x)) as F [ true ↦ times-cons_other q (row x) (map row kept) ne ∙ same | false ↦ same ])
+
+  pub times-map-filter : (xs : List X) → times q (map row (filter (λ x. t (row x)) xs)) ≡ cond (t q) (times q (map row xs)) 0
+  times-map-filter [] = let n = times-nil q in elim (t q) as (λ b. times q [] ≡ cond b (times q []) 0) [ true ↦ refl | false ↦ n ]
+  times-map-filter (x ∷ xs) = filter_step x xs (times-map-filter xs)
+
+  pub times_kept : (xs : List X) → t q ≡ true → times q (map row (filter (λ x. t (row x)) xs)) ≡ times q (map row xs)
+  times_kept xs e = times-map-filter xs ∙ ap (λ (b : Bool). cond b (times q (map row xs)) 0) e
+
+  pub times_dropped : (xs : List X) → t q ≡ false → times q (map row (filter (λ x. t (row x)) xs)) ≡ 0
+  times_dropped xs e = times-map-filter xs ∙ ap (λ (b : Bool). cond b (times q (map row xs)) 0) e
+
+map_same : (xs : List ℕ) → map (λ x. x) xs ≡ xs
+map_same [] = refl
+map_same (x ∷ xs) = ap (λ (ys : List ℕ). x ∷ ys) (map_same xs)
+
+pub times-filter : (t : ℕ → Bool) (q : ℕ) (xs : List ℕ) → times q (filter t xs) ≡ cond (t q) (times q xs) 0
+times-filter t q xs = ap (times q) (sym (map_same (filter t xs))) ∙ (times-map-filter (λ x. x) t q xs ∙ ap (λ (ys : List ℕ). cond (t q) (times q ys) 0) (map_same xs))
+
+pub times_without_same : (r q : ℕ) (xs : List ℕ) → q ≡ r → times q (without r xs) ≡ 0
+times_without_same r q xs e = times-filter (λ x. not (x == r)) q xs ∙ ap (λ (b : Bool). cond (not b) (times q xs) 0) (eq-eqb q r e)
+
+pub times_without_other : (r q : ℕ) (xs : List ℕ) → q ≢ r → times q (without r xs) ≡ times q xs
+times_without_other r q xs ne = times-filter (λ x. not (x == r)) q xs ∙ ap (λ (b : Bool). cond (not b) (times q xs) 0) (ne_eqb q r ne)
+
+pub among_true : (xs : List ℕ) (r : ℕ) → Has xs r → among xs r ≡ true
+among_true xs r h = lt-ltb 0 (times r xs) h
+
+pub among_false : (xs : List ℕ) (r : ℕ) → times r xs ≡ 0 → among xs r ≡ false
+among_false xs r e = le-ltb 0 (times r xs) (omega arith)
+
+pub times_minus_same : (ts xs : List ℕ) (q : ℕ) → Has ts q → times q (minus ts xs) ≡ 0
+times_minus_same ts xs q h = times-filter (λ x. not (among ts x)) q xs ∙ ap (λ (b : Bool). cond (not b) (times q xs) 0) (among_true ts q h)
+
+pub times_minus_other : (ts xs : List ℕ) (q : ℕ) → times q ts ≡ 0 → times q (minus ts xs) ≡ times q xs
+times_minus_other ts xs q e = times-filter (λ x. not (among ts x)) q xs ∙ ap (λ (b : Bool). cond (not b) (times q xs) 0) (among_false ts q e)
+
+-- Sums over the numbers below another
+
+pub sum_below-suc : (n : ℕ) (f : ℕ → ℕ) → sum_below (suc n) f ≡ f n + sum_below n f
+unfolding sum_below
+sum_below-suc n f = refl
+
+pub sum_below-zero : (f : ℕ → ℕ) → sum_below 0 f ≡ 0
+unfolding sum_below
+sum_below-zero f = refl
+
+pub sum_same : (n : ℕ) (f g : ℕ → ℕ) → ((k : ℕ) → k < n → f k ≡ g k) → sum_below n f ≡ sum_below n g
+unfolding sum_below
+sum_same zero f g same = refl
+sum_same (suc n) f g same = let here = same n (omega arith) in let rest = sum_same n f g (λ k h. same k (omega arith)) in omega arith
+
+-- two sums that differ in one term
+pub sum_changed : (n k : ℕ) (f g : ℕ → ℕ) → k < n → ((j : ℕ) → j < n → j ≢ k → f j ≡ g j) → sum_below n f + g k ≡ sum_below n g + f k
+unfolding sum_below
+sum_changed zero k f g h others = absurd (omega arith)
+sum_changed (suc n) k f g h others = dite (ℕ_discrete n k)
+    (λ e. let rest = sum_same n f g (λ j less. others j (omega arith) (λ z. omega arith)) in let a = ap f e in let b = ap g e in omega arith)
+    (λ ne. let here = others n (omega arith) ne in let rest = sum_changed n k f g (omega arith) (λ j less. others j (omega arith)) in omega arith)
+
+pub sum_zero : (n : ℕ) (f : ℕ → ℕ) → ((k : ℕ) → k < n → f k ≡ 0) → sum_below n f ≡ 0
+unfolding sum_below
+sum_zero zero f h = refl
+sum_zero (suc n) f h = let here = h n (omega arith) in let rest = sum_zero n f (λ k less. h k (omega arith)) in omega arith
+
+pub sum_at_least : (n k : ℕ) (f : ℕ → ℕ) → k < n → f k ≤ sum_below n f
+unfolding sum_below
+sum_at_least zero k f h = absurd (omega arith)
+sum_at_least (suc n) k f h = dite (ℕ_discrete n k)
+    (λ e. let a = ap f e in omega arith)
+    (λ ne. let rest = sum_at_least n k f (omega arith) in omega arith)
+
+-- where a sum is not 0, some term is not 0
+pub sum_some : (n : ℕ) (f : ℕ → ℕ) → 0 < sum_below n f → (k : ℕ) × (k < n) × (0 < f k)
+unfolding sum_below
+sum_some zero f h = absurd (omega arith)
+sum_some (suc n) f h = dite (ℕ_discrete (f n) 0)
+    (λ e. let rest = sum_some n f (omega arith) in (rest.0, omega arith, rest.2))
+    (λ ne. (n, omega arith, omega arith))
