@@ -17,8 +17,8 @@ use Rattle.walk_core.specs.Events.{pass_of, number_after, newly_granted, unlinke
 use Rattle.walk_core.specs.Guards.{MayGive, put_rows, IsAllowed}
 use Rattle.walk_core.specs.Good.{Good, BookLock, IsPlaced}
 use Rattle.walk_core.proofs.RowLists.{times-nil, times-append, times-cons, times_kept, times_dropped, times_minus_same, times_minus_other, among_true, among_false}
-use Rattle.walk_core.proofs.Frames.{spot, actor, Moves, word_here, each_pass, pass_here, out_moved, new_moved, out_same, new_same, sizes_on, states_on, row_locks_on, row_locks_same, book_on, links_on, stands_on}
-use Rattle.walk_core.proofs.Facts.{hand-le-out, parts-le-out, out-le-one, unchanged}
+use Rattle.walk_core.proofs.Frames.{spot, actor, Moves, word_other, word_here, rows_stay_past, each_pass, pass_here, out_moved, new_moved, out_same, new_same, sizes_on, states_on, row_locks_on, row_locks_same, book_on, links_on, stands_on}
+use Rattle.walk_core.proofs.Facts.{root_linked, hand-le-out, parts-le-out, out-le-one, unchanged}
 
 -- The book's lock word becomes n, and the pass has the book where n says so.
 pub rebooked : {c : Core} {e : Event} {w : PassCore} (m : Moves c e w) (n : ℕ) → spot c e ≡ book_at c.rows c.count → book_at c.rows c.count < length c.words → number_after e (word c (spot c e)) ≡ n
@@ -39,17 +39,18 @@ turn_hits c p g there free =
     let z = g.sizes in let wide = z.words in let few = z.count_high in let all = z.passes in let some_rows = z.rows_low in
     let hit : (word c (book_at c.rows c.count) == 0) ≡ true = eq-eqb (word c (book_at c.rows c.count)) 0 free in
     let m : Moves c (Turn p) w = record { there = omega arith; is = ap (λ b. cond b w v) hit } in
+    let stay = rows_stay_past m (omega arith) in
     let out = out_same m refl refl (λ x. refl) in
     record {
       sizes = sizes_on m z;
       states = states_on m out g.states;
       locks = record {
-        rows = row_locks_same m (omega arith) (λ r h e. omega arith) refl out (λ x. refl) g.locks.rows;
+        rows = row_locks_same m (omega arith) (λ r h. word_other m (lock_at r) (λ e. omega arith)) refl out (λ x. refl) g.locks.rows;
         book = rebooked m (held_by p) refl (omega arith) (ap (λ b. either b (held_by p) (word c (book_at c.rows c.count))) hit)
             (λ q ne has. let shown = g.locks.book.shown q has in omega arith) (inr (refl, refl));
       };
-      links = links_on m (λ q i h k e. omega arith) (λ q h e. omega arith) (λ q h e. omega arith) (omega arith) out (λ x. x) g.links;
-      stands = stands_on m (λ q h e. omega arith) (λ q h e. omega arith) (λ q h e. omega arith) refl (new_same m refl (λ x. refl)) g.stands;
+      links = links_on m stay (root_linked g) out (g.links.held_places p) (λ x. x) g.links;
+      stands = stands_on m (λ q h. word_other m (epoch_at c.rows q) (λ e. omega arith)) stay refl (new_same m refl (λ x. refl)) g.stands;
     }
 
 pub turn_keeps : (c : Core) (p : ℕ) → Good c → IsAllowed c (Turn p) → Good (after c (Turn p))
@@ -116,20 +117,21 @@ module _ (c : Core) (p : ℕ) (put : List PutRow) (swept taken : List ℕ) (g : 
       let z = g.sizes in let wide = z.words in let few = z.count_high in let all = z.passes in let some_rows = z.rows_low in
       let m : Moves c e w = record { there = omega arith; is = refl } in
       let out : (r : ℕ) → times_out (after c e) r ≡ times_out c r = λ r. let moved = out_moved m r in let lists = give_moves r in omega arith in
+      let stay = rows_stay_past m (omega arith) in
       let book = g.locks.book.shown p ok.has_book in
       record {
         sizes = sizes_on m z;
         states = states_on m out g.states;
         locks = record {
-          rows = row_locks_on m (omega arith) (λ r h e. omega arith) refl (λ r. inl (out r))
+          rows = row_locks_on m (omega arith) (λ r h. word_other m (lock_at r) (λ e. omega arith)) refl (λ r. inl (out r))
               (λ r held in_hand. let same = out r in let lists = give_moves r in
               let unput : times r (put_rows put) ≡ 0 = dite (ℕ_discrete (times r (put_rows put)) 0) (λ z. z) (λ ne. let marked = (ok.put_marked r (omega arith)).1 in absurd (omega arith)) in
               let parts = parts-le-out c p r (omega arith) in omega arith)
               g.locks.rows;
           book = rebooked m 0 refl (omega arith) refl (λ q ne has. let shown = g.locks.book.shown q has in ne (omega arith)) (inl (refl, refl));
         };
-        links = links_on m (λ q i h k e. omega arith) (λ q h e. omega arith) (λ q h e. omega arith) (omega arith) out (granted_placed c v.granted taken) g.links;
-        stands = stands_on m (λ q h e. omega arith) (λ q h e. omega arith) (λ q h e. omega arith) refl (λ r old. let moved = new_moved m r in let lists = give_moves r in omega arith) g.stands;
+        links = links_on m stay (root_linked g) out (g.links.held_places p) (granted_placed c v.granted taken) g.links;
+        stands = stands_on m (λ q h. word_other m (epoch_at c.rows q) (λ e. omega arith)) stay refl (λ r old. let moved = new_moved m r in let lists = give_moves r in omega arith) g.stands;
       }
 
 pub give_keeps : (c : Core) (p : ℕ) (put : List PutRow) (swept taken : List ℕ) → Good c → IsAllowed c (Give p put swept taken) → Good (after c (Give p put swept taken))

@@ -3,21 +3,22 @@ use Rattle.std.proofs.Common.{◌≡◌, ◌≢◌, ℕ, ◌+◌, ◌*◌, ◌<�
 use prog.Atomic.{either}
 use mathlib.Core.Logic.{dite}
 use native.Mathlib.Decide.{ℕ_discrete}
+use Rattle.table_place.specs.Place.{is_place}
 use Rattle.walk_core.specs.declared.event.Event.{Event}
 use Rattle.walk_core.specs.declared.event.Event.TheVariants.{Grab, Release}
 use Rattle.walk_core.specs.declared.pass.PassCore.{PassCore}
 use Rattle.walk_core.specs.declared.pass.Stand.{Stand}
 use Rattle.walk_core.specs.Words.{entry_at, lock_at, position_at, generation_at, epoch_at, book_at, held_by}
 use Rattle.walk_core.specs.Lists.{times, Has, without}
-use Rattle.walk_core.specs.Core.{Core, word, pass_at, times_in_hand, times_out, IsLinked}
+use Rattle.walk_core.specs.Core.{Core, word, place_in, pass_at, times_in_hand, times_out, IsLinked}
 use Rattle.walk_core.specs.Events.{pass_of, after}
 use Rattle.walk_core.specs.Guards.{StandsOn, HoldsLinker, Guard, IsAllowed}
 use Rattle.walk_core.specs.Good.{Good, says_free, says_held}
-use Rattle.walk_core.proofs.RowLists.{times_push_same, times_push_other, times_without_same, times_without_other}
+use Rattle.walk_core.proofs.RowLists.{times_push_same, times_push_other, times_without_same, times_without_other, times_without_le}
 use Rattle.walk_core.proofs.Tree.{names_there}
-use Rattle.walk_core.proofs.Frames.{Moves, pass_here, out_same, new_same, sizes_on, states_on, book_on, links_on, stands_on}
+use Rattle.walk_core.proofs.Frames.{Moves, word_other, pass_here, rows_stay_lock, out_same, new_same, sizes_on, states_on, book_on, links_on, stands_on}
 use Rattle.walk_core.proofs.Relocks.{relocked}
-use Rattle.walk_core.proofs.Facts.{hand-le-out, free_unheld, free_linked, held_alone, tested, unchanged}
+use Rattle.walk_core.proofs.Facts.{root_linked, hand-le-out, free_unheld, free_linked, held_alone, tested, unchanged}
 
 -- a row that a pass may grab is there
 pub grabbed_there : (c : Core) (p r : ℕ) → Good c → StandsOn (pass_at c p) r ⊎ HoldsLinker c (pass_at c p) r → r < c.rows
@@ -31,6 +32,7 @@ grab_hits c p r g there less free =
     let z = g.sizes in let wide = z.words in let few = z.count_high in let all = z.passes in
     let hit : (word c (lock_at r) == 0) ≡ true = eq-eqb (word c (lock_at r)) 0 free in
     let m : Moves c (Grab p r) w = record { there = omega arith; is = ap (λ b. cond b w v) hit } in
+    let stay = rows_stay_lock m r refl in
     let out = out_same m refl refl (λ x. refl) in
     let linked = free_linked g.locks.rows r less free in
     let tree = linked.in_tree in
@@ -55,10 +57,12 @@ grab_hits c p r g there less free =
           holds = λ _. (refl, omega arith);
           says = says_held p refl (let now = ap (λ (u : PassCore). times r u.held) (pass_here m) in omega arith);
         }) g.locks.rows;
-        book = book_on m (λ e. omega arith) refl g.locks.book;
+        book = book_on m (word_other m (book_at c.rows c.count) (λ e. omega arith)) refl g.locks.book;
       };
-      links = links_on m (λ q i h k e. omega arith) (λ q h e. omega arith) (λ q h e. omega arith) (omega arith) out (λ x. x) g.links;
-      stands = stands_on m (λ q h e. omega arith) (λ q h e. omega arith) (λ q h e. omega arith) refl (new_same m refl (λ x. refl)) g.stands;
+      links = links_on m stay (root_linked g) out (λ q ne h i. dite (ℕ_discrete q r)
+          (λ same. subst (λ (x : ℕ). is_place c.levels (place_in c x) ≡ true) (sym same) (g.links.places r (subst (λ (x : ℕ). x ≢ 0) same ne) linked))
+          (λ other. g.links.held_places p q ne h (subst (λ (n : ℕ). 0 < n) (times_push_other q r v.held (λ e. other (sym e))) i))) (λ x. x) g.links;
+      stands = stands_on m (λ q h. word_other m (epoch_at c.rows q) (λ e. omega arith)) stay refl (new_same m refl (λ x. refl)) g.stands;
     }
 
 pub grab_keeps : (c : Core) (p r : ℕ) → Good c → IsAllowed c (Grab p r) → Good (after c (Grab p r))
@@ -75,6 +79,7 @@ release_keeps c p r g ok =
     let z = g.sizes in let wide = z.words in let few = z.count_high in let all = z.passes in let there = ok.there in
     let less = ok.guard.1.there in let tree = ok.guard.1.in_tree in
     let m : Moves c (Release p r) w = record { there = omega arith; is = refl } in
+    let stay = rows_stay_lock m r refl in
     let out = out_same m refl refl (λ x. refl) in
     let gone = times_without_same r r v.held refl in
     record {
@@ -95,8 +100,8 @@ release_keeps c p r g ok =
           holds = λ h. absurd (omega arith);
           says = says_free refl (out r ∙ tree);
         }) g.locks.rows;
-        book = book_on m (λ e. omega arith) refl g.locks.book;
+        book = book_on m (word_other m (book_at c.rows c.count) (λ e. omega arith)) refl g.locks.book;
       };
-      links = links_on m (λ q i h k e. omega arith) (λ q h e. omega arith) (λ q h e. omega arith) (omega arith) out (λ x. x) g.links;
-      stands = stands_on m (λ q h e. omega arith) (λ q h e. omega arith) (λ q h e. omega arith) refl (new_same m refl (λ x. refl)) g.stands;
+      links = links_on m stay (root_linked g) out (λ q ne h i. g.links.held_places p q ne h (times_without_le r q v.held i)) (λ x. x) g.links;
+      stands = stands_on m (λ q h. word_other m (epoch_at c.rows q) (λ e. omega arith)) stay refl (new_same m refl (λ x. refl)) g.stands;
     }

@@ -1,8 +1,11 @@
 pub mod RowLists
 pub mod Spellings
 pub mod Tree
+pub mod Facts
 pub mod Frames
 pub mod Relocks
-pub mod Facts
 pub mod KeepsLocks
 pub mod KeepsBook
+pub mod KeepsStands
+pub mod KeepsRows
+pub mod KeepsLinks

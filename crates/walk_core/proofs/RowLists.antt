@@ -79,6 +79,9 @@ times_without_same r q xs e = times-filter (λ x. not (x == r)) q xs ∙ ap (λ 
 pub times_without_other : (r q : ℕ) (xs : List ℕ) → q ≢ r → times q (without r xs) ≡ times q xs
 times_without_other r q xs ne = times-filter (λ x. not (x == r)) q xs ∙ ap (λ (b : Bool). cond (not b) (times q xs) 0) (ne_eqb q r ne)
 
+pub times_without_le : (r q : ℕ) (xs : List ℕ) → Has (without r xs) q → Has xs q
+times_without_le r q xs h = dite (ℕ_discrete q r) (λ e. let none = times_without_same r q xs e in absurd (omega arith)) (λ ne. let same = times_without_other r q xs ne in omega arith)
+
 pub among_true : (xs : List ℕ) (r : ℕ) → Has xs r → among xs r ≡ true
 among_true xs r h = lt-ltb 0 (times r xs) h
 

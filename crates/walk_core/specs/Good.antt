@@ -89,6 +89,7 @@ pub record Links (c : Core) : Type 0 where
   pub root_place : place_in c 0 ≡ directory
   pub root_generation : generation_in c 0 ≡ 0
   pub places : (q : ℕ) → q ≢ 0 → IsLinked c q → is_place c.levels (place_in c q) ≡ true
+  pub held_places : (p q : ℕ) → q ≢ 0 → q < c.rows → Has (pass_at c p).held q → is_place c.levels (place_in c q) ≡ true
   pub set_up : (p : ℕ) → AllByRecursion (IsPlaced c) (pass_at c p).granted
 
 -- Stands
