@@ -36,7 +36,7 @@ new-le-out c r =
     let granted = sum_by-le-sum_by (λ (v : PassCore). times r (granted_rows v)) (times_in_hand r) c.passes (λ v. omega arith) in omega arith
 
 pub root_linked : {c : Core} → Good c → IsLinked c 0
-root_linked {c} g = let some_rows = g.sizes.rows_low in record { there = omega arith; in_tree = g.states.root }
+root_linked {c} g = let some_rows = g.sizes.bounds.rows_low in record { there = omega arith; in_tree = g.states.root }
 
 pub out-le-one : {c : Core} → States c → (r : ℕ) → times_out c r ≤ 1
 out-le-one {c} g r = ⊎_elim (λ (less : r < c.rows). g.once r less) (λ past. let none_there = g.there r past in omega arith) (cases_lt r c.rows)
@@ -66,7 +66,7 @@ module _ {c : Core} (g : RowLocks c) where
 pub stale_unheld : {c : Core} → Good c → (r : ℕ) → word c (lock_at r) ≡ stale → (q : ℕ) → times r (pass_at c q).held ≡ 0
 stale_unheld {c} g r shown q = ⊎_elim
     (λ (less : q < c.count). dite (ℕ_discrete (times r (pass_at c q).held) 0) (λ z. z)
-    (λ ne. let few = g.sizes.count_high in let says = (g.locks.rows.held q r (omega arith)).shown in absurd (omega arith)))
+    (λ ne. let few = g.sizes.bounds.count_high in let says = (g.locks.rows.held q r (omega arith)).shown in absurd (omega arith)))
     (λ past. let all = g.sizes.passes in ap (λ (u : PassCore). times r u.held) (get_or_past c.passes q idle (omega arith)) ∙ times-nil r)
     (cases_lt q c.count)
 

@@ -124,11 +124,7 @@ module _ {c : Core} {e : Event} {w : PassCore} (m : Moves c e w) where
 
   pub sizes_on : Sizes c → Sizes (after c e)
   sizes_on z = record {
-    levels = z.levels;
-    rows_low = z.rows_low;
-    rows_high = z.rows_high;
-    count_low = z.count_low;
-    count_high = z.count_high;
+    bounds = z.bounds;
     words = length-set c.words (spot c e) (number_after e (word c (spot c e))) ∙ z.words;
     passes = length-set c.passes (pass_of e) (pass_after c.levels e (word c (spot c e)) (actor c e)) ∙ z.passes;
   }

@@ -36,7 +36,7 @@ rebooked {c} {e} {w} m n at wide number nobody_else is =
 turn_hits : (c : Core) (p : ℕ) → Good c → p < c.count → word c (book_at c.rows c.count) ≡ 0 → Good (after c (Turn p))
 turn_hits c p g there free =
     let v : PassCore = pass_at c p in let w : PassCore = record v { has_book = true; samples = no_samples } in
-    let z = g.sizes in let wide = z.words in let few = z.count_high in let all = z.passes in let some_rows = z.rows_low in
+    let z = g.sizes in let wide = z.words in let few = z.bounds.count_high in let all = z.passes in let some_rows = z.bounds.rows_low in
     let hit : (word c (book_at c.rows c.count) == 0) ≡ true = eq-eqb (word c (book_at c.rows c.count)) 0 free in
     let m : Moves c (Turn p) w = record { there = omega arith; is = ap (λ b. cond b w v) hit } in
     let stay = rows_stay_past m (omega arith) in
@@ -114,7 +114,7 @@ module _ (c : Core) (p : ℕ) (put : List PutRow) (swept taken : List ℕ) (g : 
   pub give_kept : Good (after c (Give p put swept taken))
   give_kept =
       let e : Event = Give p put swept taken in
-      let z = g.sizes in let wide = z.words in let few = z.count_high in let all = z.passes in let some_rows = z.rows_low in
+      let z = g.sizes in let wide = z.words in let few = z.bounds.count_high in let all = z.passes in let some_rows = z.bounds.rows_low in
       let m : Moves c e w = record { there = omega arith; is = refl } in
       let out : (r : ℕ) → times_out (after c e) r ≡ times_out c r = λ r. let moved = out_moved m r in let lists = give_moves r in omega arith in
       let stay = rows_stay_past m (omega arith) in

@@ -126,7 +126,7 @@ module _ (c : Core) (p r i x : ℕ) (g : Good c) (ok : IsAllowed c (SetEntry p r
   -- no link is written
   set_plain : is_link x ≡ false → Good (after c (SetEntry p r i x))
   set_plain plain =
-      let m = sets.moves in let z = g.sizes in let few = z.count_high in let all = z.passes in let there = ok.there in let h = ok.guard.inside in let less = ok.guard.linked.there in
+      let m = sets.moves in let z = g.sizes in let few = z.bounds.count_high in let all = z.passes in let there = ok.there in let h = ok.guard.inside in let less = ok.guard.linked.there in
       let hand : (q : ℕ) → times_in_hand q set_view ≡ times_in_hand q (pass_at c p)
       = λ q. ap (λ (b : Bool). times q (map (λ (y : GrantedRow). y.row) (cond b (filter (λ (y : GrantedRow). not (y.row == link_row x)) (pass_at c p).granted) (pass_at c p).granted)) + times q (unlinked_rows (pass_at c p))) plain in
       let out = out_same m refl refl hand in
@@ -154,7 +154,7 @@ module _ (c : Core) (p r i x : ℕ) (g : Good c) (ok : IsAllowed c (SetEntry p r
   set_link : MayLink c (pass_at c p) r i x → Good (after c (SetEntry p r i x))
   set_link may =
       let e : Event = SetEntry p r i x in let v : PassCore = pass_at c p in let child : ℕ = link_row x in
-      let m = sets.moves in let z = g.sizes in let few = z.count_high in let all = z.passes in let there = ok.there in let h = ok.guard.inside in let less = ok.guard.linked.there in
+      let m = sets.moves in let z = g.sizes in let few = z.bounds.count_high in let all = z.passes in let there = ok.there in let h = ok.guard.inside in let less = ok.guard.linked.there in
       let granted = may.granted in
       let hand_child = hand-le-out c p child (omega arith) in let most = out-le-one g.states child in
       let left : List GrantedRow = filter (λ (y : GrantedRow). not (y.row == child)) v.granted in
@@ -222,7 +222,7 @@ pub unlink_keeps : (c : Core) (p r i : ℕ) → Good c → IsAllowed c (Unlink p
 unlink_keeps c p r i g ok =
     let e : Event = Unlink p r i in let v : PassCore = pass_at c p in let n : ℕ = word c (entry_at r i) in let child : ℕ = link_row n in
     let w : PassCore = record v { unlinked = v.unlinked ++ newly_unlinked child ∷ [] } in
-    let z = g.sizes in let wide = z.words in let few = z.count_high in let all = z.passes in let there = ok.there in let h = ok.guard.inside in
+    let z = g.sizes in let wide = z.words in let few = z.bounds.count_high in let all = z.passes in let there = ok.there in let h = ok.guard.inside in
     let less = (g.locks.rows.held p r ok.guard.held).there in
     let sets : SetsEntry c e w r i 0 = record {
       moves = record { there = omega arith; is = refl };

@@ -29,7 +29,7 @@ grabbed_there c p r g guard = ⊎_elim
 grab_hits : (c : Core) (p r : ℕ) → Good c → p < c.count → r < c.rows → word c (lock_at r) ≡ 0 → Good (after c (Grab p r))
 grab_hits c p r g there less free =
     let v : PassCore = pass_at c p in let w : PassCore = record v { held = v.held ++ r ∷ [] } in
-    let z = g.sizes in let wide = z.words in let few = z.count_high in let all = z.passes in
+    let z = g.sizes in let wide = z.words in let few = z.bounds.count_high in let all = z.passes in
     let hit : (word c (lock_at r) == 0) ≡ true = eq-eqb (word c (lock_at r)) 0 free in
     let m : Moves c (Grab p r) w = record { there = omega arith; is = ap (λ b. cond b w v) hit } in
     let stay = rows_stay_lock m r refl in
@@ -76,7 +76,7 @@ grab_keeps c p r g ok =
 pub release_keeps : (c : Core) (p r : ℕ) → Good c → IsAllowed c (Release p r) → Good (after c (Release p r))
 release_keeps c p r g ok =
     let v : PassCore = pass_at c p in let w : PassCore = record v { held = without r v.held } in
-    let z = g.sizes in let wide = z.words in let few = z.count_high in let all = z.passes in let there = ok.there in
+    let z = g.sizes in let wide = z.words in let few = z.bounds.count_high in let all = z.passes in let there = ok.there in
     let less = ok.guard.1.there in let tree = ok.guard.1.in_tree in
     let m : Moves c (Release p r) w = record { there = omega arith; is = refl } in
     let stay = rows_stay_lock m r refl in

@@ -28,7 +28,7 @@ use Rattle.walk_core.proofs.Facts.{root_linked, hand-le-out, granted-le-new, out
 pub mark_keeps : (c : Core) (p r : ℕ) → Good c → IsAllowed c (MarkStale p r) → Good (after c (MarkStale p r))
 mark_keeps c p r g ok =
     let v : PassCore = pass_at c p in let w : PassCore = record v { held = without r v.held } in
-    let z = g.sizes in let wide = z.words in let few = z.count_high in let all = z.passes in let there = ok.there in
+    let z = g.sizes in let wide = z.words in let few = z.bounds.count_high in let all = z.passes in let there = ok.there in
     let less = (g.locks.rows.held p r ok.guard.1).there in
     let m : Moves c (MarkStale p r) w = record { there = omega arith; is = refl } in
     let stay = rows_stay_lock m r refl in
@@ -78,7 +78,7 @@ granted_placed_at c r (x ∷ gs) g all e has = dite (ℕ_discrete x.row r)
 pub open_keeps : (c : Core) (p r : ℕ) → Good c → IsAllowed c (OpenRow p r) → Good (after c (OpenRow p r))
 open_keeps c p r g ok =
     let v : PassCore = pass_at c p in let w : PassCore = record v { held = v.held ++ r ∷ [] } in
-    let z = g.sizes in let wide = z.words in let few = z.count_high in let all = z.passes in let there = ok.there in
+    let z = g.sizes in let wide = z.words in let few = z.bounds.count_high in let all = z.passes in let there = ok.there in
     let mine : Has (granted_rows v) r = granted_found r v.granted (record { row = r; has_position = true; has_generation = true }) ok.guard.set_up in
     let less = hand_there g p r there (omega arith) in
     let m : Moves c (OpenRow p r) w = record { there = omega arith; is = refl } in
@@ -135,7 +135,7 @@ module _ (c : Core) (p r : ℕ) (g : Good c) where
       let z = g.sizes in let wide = z.words in let all = z.passes in let here = ok.there in
       let m : Moves c (SetUp p r (Position place)) (record (pass_at c p) { granted = granted_after_part r (Position place) (pass_at c p).granted }) = record { there = omega arith; is = refl } in
       let low = is_place_low c.levels place ok.guard.value in let small = low.1 in
-      let few : c.levels ≤ 5 = ⊎_elim (λ (e : c.levels ≡ 4). omega arith) (λ (e : c.levels ≡ 5). omega arith) z.levels in
+      let few : c.levels ≤ 5 = ⊎_elim (λ (e : c.levels ≡ 4). omega arith) (λ (e : c.levels ≡ 5). omega arith) z.bounds.some_levels in
       ap (is_place c.levels) (ap place_shown (word_here m (position_word place) (omega arith) refl) ∙ place_shown-position_word place low.0 (omega arith)) ∙ ok.guard.value
 
   -- what a granted row's position word shows after the step
@@ -184,7 +184,7 @@ pub set_up_keeps : (c : Core) (p r : ℕ) (part : SetPart) → Good c → IsAllo
 set_up_keeps c p r part g ok =
     let e : Event = SetUp p r part in
     let v : PassCore = pass_at c p in let w : PassCore = record v { granted = granted_after_part r part v.granted } in
-    let z = g.sizes in let few = z.count_high in let all = z.passes in let here = ok.there in
+    let z = g.sizes in let few = z.bounds.count_high in let all = z.passes in let here = ok.there in
     let granted = ok.guard.granted in
     let there : r < c.rows = hand_there g p r ok.there (omega arith) in
     let m : Moves c e w = record { there = omega arith; is = refl } in

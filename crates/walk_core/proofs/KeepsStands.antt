@@ -40,7 +40,7 @@ crossed : (c : Core) (e : Event) (w : PassCore) (n : ℕ) → Good c → pass_of
     → w.held ≡ (actor c e).held → w.granted ≡ (actor c e).granted → w.unlinked ≡ (actor c e).unlinked → w.has_book ≡ (actor c e).has_book
     → n ≤ 2 ^ 62 → n % 2 ≡ inside w.stand → ((s : Stand) → w.stand ≡ Some s → IsStand c s) → Good (after c e)
 crossed c e w n g there m at number out new held granted unlinked book low parity stand =
-    let z = g.sizes in let wide = z.words in let few = z.count_high in let all = z.passes in let some_rows = z.rows_low in
+    let z = g.sizes in let wide = z.words in let few = z.bounds.count_high in let all = z.passes in let some_rows = z.bounds.rows_low in
     let stay = rows_stay_past m (omega arith) in
     let now : word (after c e) (epoch_at c.rows (pass_of e)) ≡ n = subst (λ (k : ℕ). word (after c e) k ≡ n) at (word_here m n (omega arith) number) in
     record {
@@ -58,7 +58,7 @@ crossed c e w n g there m at number out new held granted unlinked book low parit
 
 -- row 0 may be stood on
 top_stands : {c : Core} → Good c → IsStand c top
-top_stands {c} g = let z = g.sizes in let some_rows = z.rows_low in let out = g.states.root in let less = new-le-out c 0 in
+top_stands {c} g = let z = g.sizes in let some_rows = z.bounds.rows_low in let out = g.states.root in let less = new-le-out c 0 in
     record { there = omega arith; not_new = omega arith; place = g.links.root_place; generation = g.links.root_generation }
 
 pub enter_keeps : (c : Core) (p : ℕ) → Good c → IsAllowed c (Enter p) → Good (after c (Enter p))
@@ -105,7 +105,7 @@ pub look_keeps : (c : Core) (p r i : ℕ) → Good c → IsAllowed c (Look p r i
 look_keeps c p r i g ok =
     let e : Event = Look p r i in
     let v : PassCore = pass_at c p in let n : ℕ = word c (entry_at r i) in let w : PassCore = record v { stand = stand_after_look c.levels r i n v.stand } in
-    let z = g.sizes in let few = z.count_high in let all = z.passes in let some_rows = z.rows_low in let there = ok.there in
+    let z = g.sizes in let few = z.bounds.count_high in let all = z.passes in let some_rows = z.bounds.rows_low in let there = ok.there in
     let m : Moves c e w = record { there = omega arith; is = refl } in
     let stay = rows_stay_read m refl in
     let out = out_same m refl refl (λ x. refl) in

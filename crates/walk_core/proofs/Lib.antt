@@ -9,3 +9,5 @@ pub mod KeepsBook
 pub mod KeepsStands
 pub mod KeepsRows
 pub mod KeepsLinks
+pub mod Boot
+pub mod Keeps

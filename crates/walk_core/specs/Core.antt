@@ -5,8 +5,8 @@
 --     granted_rows, unlinked_rows, granted_at      the rows of a pass's hand, and how far one that was granted is set up
 --     times_out, IsLinked      how many times a row is out of the tree of links, and that it is in the tree
 --     state_of      what becomes of a row
---     boot      the core at the start
-use Rattle.std.specs.Prelude.{◌≡◌, ℕ, ◌+◌, ◌-◌, ◌*◌, ◌/◌, ◌%◌, ◌<◌, ◌≤◌, Bool, false, ◌&&◌, cond, List, [], ◌∷◌, map, replicate, slice_index, slice_index_or, Option, None, Some, nat_eq, nat_lt, nat_le}
+--     MayBoot, boot      how many levels, rows and passes there may be, and the core at the start
+use Rattle.std.specs.Prelude.{◌≡◌, ℕ, ◌+◌, ◌-◌, ◌*◌, ◌/◌, ◌%◌, ◌<◌, ◌≤◌, Bool, false, ◌&&◌, ◌⊎◌, cond, List, [], ◌∷◌, map, replicate, slice_index, slice_index_or, Option, None, Some, nat_eq, nat_lt, nat_le}
 use Rattle.std.specs.List.{find, range_with_len, sum_by}
 use Rattle.table_place.specs.declared.Place.{Place}
 use Rattle.table_place.specs.Place.{root, directory}
@@ -84,6 +84,14 @@ state_by_hands r p (v ∷ vs) =
 
 abbrev pub state_of : Core → ℕ → RowState
 state_of c r = cond (among c.free r) Free (cond (among (limbo_rows c) r) Limbo (state_by_hands r 0 c.passes))
+
+-- how many levels, rows and passes there may be
+pub record MayBoot (levels rows count : ℕ) : Type 0 where
+  pub some_levels : (levels ≡ 4) ⊎ (levels ≡ 5)
+  pub rows_low : 2 ≤ rows
+  pub rows_high : rows ≤ 1024
+  pub count_low : 1 ≤ count
+  pub count_high : count ≤ 8
 
 -- The core at the start: row 0 is the directory, row 1 is the root table of space 0, and all others are free.
 

@@ -16,14 +16,10 @@ use Rattle.walk_core.specs.declared.pass.SampleBounds.{SampleBounds}
 use Rattle.walk_core.specs.declared.pass.Stand.{Stand}
 use Rattle.walk_core.specs.Words.{entry_at, lock_at, epoch_at, book_at, word_count, is_link, link_row, link_generation, held_by, stale}
 use Rattle.walk_core.specs.Lists.{times, Has, sum_below}
-use Rattle.walk_core.specs.Core.{Core, word, place_in, generation_in, pass_at, granted_rows, times_in_hand, times_out, IsLinked}
+use Rattle.walk_core.specs.Core.{Core, word, place_in, generation_in, pass_at, granted_rows, times_in_hand, times_out, IsLinked, MayBoot}
 
 pub record Sizes (c : Core) : Type 0 where
-  pub levels : (c.levels ≡ 4) ⊎ (c.levels ≡ 5)
-  pub rows_low : 2 ≤ c.rows
-  pub rows_high : c.rows ≤ 1024
-  pub count_low : 1 ≤ c.count
-  pub count_high : c.count ≤ 8
+  pub bounds : MayBoot c.levels c.rows c.count
   pub words : length c.words ≡ word_count c.rows c.count
   pub passes : length c.passes ≡ c.count
 

@@ -2,11 +2,13 @@
 #![tactic(auto)]
 
 mod event;
+mod laws;
 mod lists;
 mod pass;
 mod state;
 
 pub use event::{Event, SetPart};
+pub use laws::every_core_is_good;
 pub use lists::{PutList, PutRow, RowList};
 pub use pass::{GrantedRow, PassCore, SampleBounds, Stand, UnlinkedRow};
 pub use state::RowState;
