@@ -79,13 +79,13 @@ pub open_keeps : (c : Core) (p r : ℕ) → Good c → IsAllowed c (OpenRow p r)
 open_keeps c p r g ok =
     let v : PassCore = pass_at c p in let w : PassCore = record v { held = v.held ++ r ∷ [] } in
     let z = g.sizes in let wide = z.words in let few = z.bounds.count_high in let all = z.passes in let there = ok.there in
-    let mine : Has (granted_rows v) r = granted_found r v.granted (record { row = r; has_position = true; has_generation = true }) ok.guard.set_up in
+    let mine : Has (granted_rows v) r = granted_found r v.granted (record { row = r; has_position = true; has_generation = true }) ok.guard.both_set in
     let less = hand_there g p r there (omega arith) in
     let m : Moves c (OpenRow p r) w = record { there = omega arith; is = refl } in
     let stay = rows_stay_lock m r refl in
     let out = out_same m refl refl (λ x. refl) in
     let had = stale_unheld g r ok.guard.closed p in
-    let placed = (granted_placed_at c r v.granted (record { row = r; has_position = true; has_generation = true }) (g.links.set_up p) ok.guard.set_up refl).1 in
+    let placed = (granted_placed_at c r v.granted (record { row = r; has_position = true; has_generation = true }) (g.links.set_up p) ok.guard.both_set refl).1 in
     let has = times_push_same r r v.held refl in
     let hand = hand-le-out c p r (omega arith) in let most = out-le-one g.states r in
     record {

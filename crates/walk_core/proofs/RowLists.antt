@@ -1,11 +1,12 @@
 -- How many times a row stands in a list, and sums over the numbers below another.
-use Rattle.std.proofs.Common.{◌≡◌, ◌≢◌, ℕ, zero, suc, ◌+◌, ◌<◌, ◌≤◌, ◌==◌, Bool, true, false, cond, not, ◌&&◌, List, [], ◌∷◌, ◌++◌, map, length, sym, refl, ap, ◌∙◌, subst, eqb, ltb, arith, eq-eqb, ne_eqb}
-use Rattle.std.specs.List.{filter, sum_by, count_by}
+use Rattle.std.proofs.Common.{◌≡◌, ◌≢◌, ℕ, zero, suc, ◌+◌, ◌<◌, ◌≤◌, ◌==◌, Bool, true, false, cond, not, ◌||◌, List, [], ◌∷◌, ◌++◌, map, length, get_or, sym, refl, ap, ◌∙◌, subst, Some, ltb, arith, eq-eqb, ne_eqb}
+use Rattle.std.specs.List.{filter, sum_by, count_by, list_any, find, range_with_len}
 use Rattle.std.proofs.lemmas.List.Sums.{sum_by-cons, sum_by-append}
-use Rattle.std.proofs.lemmas.Bool.{lt-ltb, le-ltb, cases_eq}
+use Rattle.std.proofs.lemmas.Bool.{lt-ltb, le-ltb, ltb-true, ltb-false}
 use mathlib.Core.Logic.{◌⊎◌}
 use mathlib.Core.Logic.{dite}
 use native.Mathlib.Decide.{ℕ_discrete}
+use Rattle.walk_core.specs.declared.pass.GrantedRow.{GrantedRow}
 use Rattle.walk_core.specs.Lists.{times, Has, among, without, minus, sum_below}
 
 pub times-nil : (r : ℕ) → times r [] ≡ 0
@@ -136,3 +137,39 @@ sum_some zero f h = absurd (omega arith)
 sum_some (suc n) f h = dite (ℕ_discrete (f n) 0)
     (λ e. let rest = sum_some n f (omega arith) in (rest.0, omega arith, rest.2))
     (λ ne. (n, omega arith, omega arith))
+
+-- Whether a row stands in a list, by a test of each element
+
+pub list_any-row : {X : Type 0} (row : X → ℕ) (r : ℕ) (xs : List X) → list_any (λ x. row x == r) xs ≡ among (map row xs) r
+list_any-row row r [] = sym (among_false [] r (times-nil r))
+list_any-row row r (x ∷ xs) = dite (ℕ_discrete (row x) r)
+    (λ e. let more = times-cons_same r (row x) (map row xs) e in
+    ap (λ t. t || list_any (λ y. row y == r) xs) (eq-eqb (row x) r e) ∙ sym (among_true (row x ∷ map row xs) r (omega arith)))
+    (λ ne. ap (λ t. t || list_any (λ y. row y == r) xs) (ne_eqb (row x) r ne) ∙ (list_any-row row r xs ∙ sym (ap (λ (n : ℕ). ltb 0 n) (times-cons_other r (row x) (map row xs) ne))))
+
+pub list_any-among : (r : ℕ) (xs : List ℕ) → list_any (λ x. x == r) xs ≡ among xs r
+list_any-among r xs = list_any-row (λ x. x) r xs ∙ ap (λ ys. among ys r) (map_same xs)
+
+pub among_has : (xs : List ℕ) (r : ℕ) → among xs r ≡ true → Has xs r
+among_has xs r e = ltb-true 0 (times r xs) e
+
+pub among_not : (xs : List ℕ) (r : ℕ) → among xs r ≡ false → times r xs ≡ 0
+among_not xs r e = let none = ltb-false 0 (times r xs) e in omega arith
+
+-- what is found has the row
+pub found_row : (r : ℕ) (gs : List GrantedRow) (g : GrantedRow) → find (λ (x : GrantedRow). x.row == r) gs ≡ Some g → g.row ≡ r
+found_row r [] g e = absurd (cc)
+found_row r (x ∷ gs) g e = dite (ℕ_discrete x.row r)
+    (λ z. let found : Some x ≡ Some g = ap (λ b. cond b (Some x) (find (λ (y : GrantedRow). y.row == r) gs)) (sym (eq-eqb x.row r z)) ∙ e in
+    let same : x ≡ g = cc in subst (λ (y : GrantedRow). y.row ≡ r) same z)
+    (λ ne. found_row r gs g (ap (λ b. cond b (Some x) (find (λ (y : GrantedRow). y.row == r) gs)) (sym (ne_eqb x.row r ne)) ∙ e))
+
+-- an element that is there does not rest on the default
+pub get_or_any : {A : Type 0} (xs : List A) (i : ℕ) (d e : A) → i < length xs → get_or xs i d ≡ get_or xs i e
+get_or_any [] i d e h = absurd (omega arith)
+get_or_any (x ∷ xs) zero d e h = refl
+get_or_any (x ∷ xs) (suc i) d e h = get_or_any xs i d e (omega arith)
+
+pub range-push : (a n : ℕ) → range_with_len a (n + 1) ≡ range_with_len a n ++ (a + n) ∷ []
+range-push a zero = let e : a ≡ a + 0 = omega arith in ap (λ (x : ℕ). x ∷ []) e
+range-push a (suc n) = let e : (a + 1) + n ≡ a + suc n = omega arith in let more : suc n + 1 ≡ suc (n + 1) = omega arith in ap (range_with_len a) more ∙ ap (λ (xs : List ℕ). a ∷ xs) (range-push (a + 1) n ∙ ap (λ (x : ℕ). range_with_len (a + 1) n ++ x ∷ []) e)

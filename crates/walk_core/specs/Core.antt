@@ -2,11 +2,11 @@
 --     Core      the core
 --     word, place_in, generation_in      a word, and the place and the generation that a row's words show
 --     idle, pass_at      a pass that has nothing, and what a pass has
---     granted_rows, unlinked_rows, granted_at      the rows of a pass's hand, and how far one that was granted is set up
+--     granted_rows, unlinked_rows, granted_at, set_up      the rows of a pass's hand, and how far one that was granted is set up
 --     times_out, IsLinked      how many times a row is out of the tree of links, and that it is in the tree
 --     state_of      what becomes of a row
 --     MayBoot, boot      how many levels, rows and passes there may be, and the core at the start
-use Rattle.std.specs.Prelude.{◌≡◌, ℕ, ◌+◌, ◌-◌, ◌*◌, ◌/◌, ◌%◌, ◌<◌, ◌≤◌, Bool, false, ◌&&◌, ◌⊎◌, cond, List, [], ◌∷◌, map, replicate, slice_index, slice_index_or, Option, None, Some, nat_eq, nat_lt, nat_le}
+use Rattle.std.specs.Prelude.{◌≡◌, ℕ, ◌+◌, ◌-◌, ◌*◌, ◌/◌, ◌%◌, ◌<◌, ◌≤◌, Bool, true, false, ◌&&◌, ◌⊎◌, cond, List, [], ◌∷◌, map, replicate, slice_index, slice_index_or, Option, None, Some, nat_eq, nat_lt, nat_le}
 use Rattle.std.specs.List.{find, range_with_len, sum_by}
 use Rattle.table_place.specs.declared.Place.{Place}
 use Rattle.table_place.specs.Place.{root, directory}
@@ -59,6 +59,10 @@ unlinked_rows v = map (λ u. u.row) v.unlinked
 
 abbrev pub granted_at : PassCore → ℕ → Option GrantedRow
 granted_at v r = find (λ g. nat_eq g.row r) v.granted
+
+-- what is found of a granted row whose two words were set up
+abbrev pub set_up : ℕ → Option GrantedRow
+set_up r = Some (record { row = r; has_position = true; has_generation = true })
 
 -- What becomes of a row
 

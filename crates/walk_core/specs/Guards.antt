@@ -15,7 +15,7 @@ use Rattle.walk_core.specs.declared.pass.PassCore.{PassCore}
 use Rattle.walk_core.specs.declared.pass.Stand.{Stand}
 use Rattle.walk_core.specs.Words.{entry_at, lock_at, epoch_at, is_link, link_row, link_generation, is_leaf, stale}
 use Rattle.walk_core.specs.Lists.{times, Has, IsDistinct, AreApart}
-use Rattle.walk_core.specs.Core.{Core, word, place_in, generation_in, pass_at, granted_rows, unlinked_rows, granted_at, IsLinked}
+use Rattle.walk_core.specs.Core.{Core, word, place_in, generation_in, pass_at, granted_rows, unlinked_rows, granted_at, set_up, IsLinked}
 use Rattle.walk_core.specs.Events.{pass_of}
 
 abbrev pub StandsOn : PassCore → ℕ → Type 0
@@ -92,7 +92,7 @@ pub record MaySetUp (c : Core) (v : PassCore) (r : ℕ) (part : SetPart) : Type 
   pub value : MayWrite c r part
 
 pub record MayOpen (c : Core) (v : PassCore) (r : ℕ) : Type 0 where
-  pub set_up : granted_at v r ≡ Some (record { row = r; has_position = true; has_generation = true })
+  pub both_set : granted_at v r ≡ set_up r
   pub closed : word c (lock_at r) ≡ stale
 
 abbrev pub Guard : Core → PassCore → Event → Type 0

@@ -4,12 +4,16 @@
 mod event;
 mod laws;
 mod lists;
+mod machine;
 mod pass;
+mod room;
 mod state;
+mod words;
 
 pub use event::{Event, SetPart};
 pub use laws::every_core_is_good;
 pub use lists::{PutList, PutRow, RowList};
+pub use machine::Core;
 pub use pass::{GrantedRow, PassCore, SampleBounds, Stand, UnlinkedRow};
 pub use state::RowState;
 pub use table_place::Place;
