@@ -2,6 +2,7 @@ pub mod RowLists
 pub mod Spellings
 pub mod Tree
 pub mod Facts
+pub mod RowStates
 pub mod Frames
 pub mod Relocks
 pub mod KeepsLocks

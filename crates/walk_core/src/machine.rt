@@ -8,12 +8,11 @@ ghost use Rattle.walk_core.specs.Rooms.{pass_core, HasRoom};
 
 use crate::lists::PutRow;
 use crate::pass::Stand;
-use crate::room::PassRoom;
+use crate::room::{PassRoom, is_listed, is_put};
 use crate::state::RowState;
 use crate::words::{self as spelled, STALE};
 use std::alloc::{AllocError, Global};
 use std::marker::Model;
-use table_place::Place;
 
 const LEVELS: u8 = 4;
 
@@ -57,6 +56,52 @@ impl Core {
             limbo: Vec::with_capacity(alloc, rows as usize)?,
         })
     }
+
+    /// The word at this place.
+    pub fn word(&self, place: u32) -> u64
+        requires { place < length self.now.words }
+        ensures { result ≡ core.word self.now place }
+    {
+        self.words[place as usize]
+    }
+
+    /// Where the pass stands; nowhere exactly where it is outside.
+    pub fn stand(&self, pass: u8) -> Option<Stand>
+        requires { pass < self.now.count }
+        ensures { result ≡ (core.pass_at self.now pass).stand }
+    {
+        self.passes[pass as usize].stand
+    }
+
+    /// What has become of the row.
+    pub fn row_state(&self, row: u32) -> RowState
+        requires { row < self.now.rows }
+        ensures { result ≡ core.state_of self.now row }
+    {
+        if is_listed(&self.free, row) {
+            return RowState::Free;
+        }
+        if is_put(&self.limbo, row) {
+            return RowState::Limbo;
+        }
+        state_by_hands(&self.passes, row)
+    }
+}
+
+// The state of a row that is neither free nor in limbo.
+fn state_by_hands(passes: &[PassRoom], row: u32) -> RowState
+    requires { length passes.now ≤ 8 }
+    ensures { result ≡ core.state_by_hands row 0 (map pass_core passes.now) }
+{
+    for (number, pass) in passes.iter().enumerate() {
+        if pass.has_granted(row) {
+            return RowState::Hand(number as u8);
+        }
+        if pass.has_unlinked(row) {
+            return RowState::Unlinked(number as u8);
+        }
+    }
+    RowState::Linked
 }
 
 fn boot_words(alloc: Global, rows: u32, passes: u8) -> Result<Vec<u64>, AllocError>

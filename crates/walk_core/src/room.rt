@@ -52,7 +52,7 @@ impl PassRoom {
     pub(crate) fn holds(&self, row: u32) -> bool
         ensures { result ≡ among self.now.held.items row }
     {
-        self.held.contains(&row)
+        is_listed(&self.held, row)
     }
 
     pub(crate) fn has_granted(&self, row: u32) -> bool
@@ -188,7 +188,14 @@ fn with_part(granted: GrantedRow, row: u32, part: &SetPart) -> GrantedRow
     }
 }
 
-/// Whether a row is among those that go into limbo.
+/// Whether a row stands in a list.
+pub(crate) fn is_listed(rows: &[u32], row: u32) -> bool
+    ensures { result ≡ among rows.now row }
+{
+    rows.contains(&row)
+}
+
+/// Whether a row is among those of limbo.
 pub(crate) fn is_put(put: &[PutRow], row: u32) -> bool
     ensures { result ≡ among (put_rows put.now) row }
 {
