@@ -81,3 +81,10 @@ tested n F hit miss = dite (ℕ_discrete n 0) (λ e. subst F (sym (eq-eqb n 0 e)
 -- a step that changes nothing
 pub unchanged : (c : Core) (p k : ℕ) → record c { words = set c.words k (word c k); passes = set c.passes p (pass_at c p) } ≡ c
 unchanged c p k = λ i. record c { words = set-get_or c.words k 0 i; passes = set-get_or c.passes p idle i }
+
+-- the same of a pass that is known
+pub seen_there : {c : Core} → Good c → (p r : ℕ) (v : PassCore) → p < c.count → v ≡ pass_at c p → 1 ≤ times_in_hand r v → r < c.rows
+seen_there g p r v there is mine = hand_there g p r there (subst (λ (u : PassCore). 1 ≤ times_in_hand r u) is mine)
+
+pub seen_held_there : {c : Core} → Good c → (p r : ℕ) (v : PassCore) → v ≡ pass_at c p → Has v.held r → r < c.rows
+seen_held_there g p r v is has = (g.locks.rows.held p r (subst (λ (u : PassCore). Has u.held r) is has)).there

@@ -24,7 +24,7 @@ use Rattle.walk_core.proofs.Facts.{root_linked, hand-le-out, free_unheld, free_l
 pub grabbed_there : (c : Core) (p r : ℕ) → Good c → StandsOn (pass_at c p) r ⊎ HoldsLinker c (pass_at c p) r → r < c.rows
 grabbed_there c p r g guard = ⊎_elim
     (λ (s : StandsOn (pass_at c p) r). subst (λ (q : ℕ). q < c.rows) s.2 (g.stands.stand p s.0 s.1).there)
-    (λ (l : HoldsLinker c (pass_at c p) r). subst (λ (q : ℕ). q < c.rows) l.names (names_there g.links l.row l.index (g.locks.rows.held p l.row l.held).there l.inside l.link)) guard
+    (λ (l : HoldsLinker c (pass_at c p) r). subst (λ (q : ℕ). q < c.rows) l.names.to_row (names_there g.links l.row l.names.index (g.locks.rows.held p l.row l.held).there l.names.inside l.names.link)) guard
 
 grab_hits : (c : Core) (p r : ℕ) → Good c → p < c.count → r < c.rows → word c (lock_at r) ≡ 0 → Good (after c (Grab p r))
 grab_hits c p r g there less free =

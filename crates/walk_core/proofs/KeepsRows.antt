@@ -19,7 +19,7 @@ use Rattle.walk_core.specs.Core.{Core, word, place_in, pass_at, idle, granted_ro
 use Rattle.walk_core.specs.Events.{pass_of, with_part, granted_after_part, part_place, part_word, after}
 use Rattle.walk_core.specs.Guards.{MayWrite, IsAllowed}
 use Rattle.walk_core.specs.Good.{Good, RowLocks, IsPlaced, times_new, says_held, says_stale}
-use Rattle.walk_core.proofs.RowLists.{times-nil, times-cons_same, times-cons_other, times-cons, times_push_same, times_push_other, times_without_same, times_without_other, times_without_le}
+use Rattle.walk_core.proofs.RowLists.{times-nil, times-cons_same, times-cons_other, times-cons, times_push_same, times_push_other, times_without_same, times_without_other, times_without_le, granted_found}
 use Rattle.walk_core.proofs.Spellings.{place_shown-position_word}
 use Rattle.walk_core.proofs.Frames.{Moves, TreeStays, spot, word_other, word_here, pass_here, each_pass, held_same, rows_stay_lock, out_same, new_same, sizes_on, states_on, row_locks_same, book_on, links_by, links_on, stands_by, stands_on}
 use Rattle.walk_core.proofs.Relocks.{relocked}
@@ -59,15 +59,7 @@ mark_keeps c p r g ok =
       stands = stands_on m (λ q h. word_other m (epoch_at c.rows q) (λ e. omega arith)) stay refl (new_same m refl (λ x. refl)) g.stands;
     }
 
--- a row that is found among granted rows stands there
-pub granted_found : (r : ℕ) (gs : List GrantedRow) (g : GrantedRow) → find (λ (x : GrantedRow). x.row == r) gs ≡ Some g → Has (map (λ (x : GrantedRow). x.row) gs) r
-granted_found r [] g e = absurd (cc)
-granted_found r (x ∷ gs) g e = dite (ℕ_discrete x.row r)
-    (λ z. let a = times-cons_same r x.row (map (λ (y : GrantedRow). y.row) gs) z in omega arith)
-    (λ ne. let a = times-cons_other r x.row (map (λ (y : GrantedRow). y.row) gs) ne in
-    let rest = granted_found r gs g (ap (λ b. cond b (Some x) (find (λ (y : GrantedRow). y.row == r) gs)) (sym (ne_eqb x.row r ne)) ∙ e) in omega arith)
-
--- and it is set up as it says
+-- a granted row is set up as it says
 granted_placed_at : (c : Core) (r : ℕ) (gs : List GrantedRow) (g : GrantedRow) → AllByRecursion (IsPlaced c) gs → find (λ (x : GrantedRow). x.row == r) gs ≡ Some g → g.has_position ≡ true → (g.row < c.rows) × (is_place c.levels (place_in c g.row) ≡ true)
 granted_placed_at c r [] g all e has = absurd (cc)
 granted_placed_at c r (x ∷ gs) g all e has = dite (ℕ_discrete x.row r)

@@ -1,6 +1,7 @@
 pub mod RowLists
 pub mod Spellings
 pub mod Tree
+pub mod Listed
 pub mod Facts
 pub mod RowStates
 pub mod Frames

@@ -173,3 +173,26 @@ get_or_any (x ∷ xs) (suc i) d e h = get_or_any xs i d e (omega arith)
 pub range-push : (a n : ℕ) → range_with_len a (n + 1) ≡ range_with_len a n ++ (a + n) ∷ []
 range-push a zero = let e : a ≡ a + 0 = omega arith in ap (λ (x : ℕ). x ∷ []) e
 range-push a (suc n) = let e : (a + 1) + n ≡ a + suc n = omega arith in let more : suc n + 1 ≡ suc (n + 1) = omega arith in ap (range_with_len a) more ∙ ap (λ (xs : List ℕ). a ∷ xs) (range-push (a + 1) n ∙ ap (λ (x : ℕ). range_with_len (a + 1) n ++ x ∷ []) e)
+
+-- a row stands in a list where it is an element
+pub has_at : (xs : List ℕ) (k : ℕ) → k < length xs → Has xs (get_or xs k 0)
+has_at [] k h = absurd (omega arith)
+has_at (x ∷ xs) zero h = let here = times-cons_same x x xs refl in omega arith
+has_at (x ∷ xs) (suc k) h = has_more x xs (get_or xs k 0) (has_at xs k (omega arith))
+  where
+    has_more : (x : ℕ) (xs : List ℕ) (r : ℕ) → Has xs r → Has (x ∷ xs) r
+    has_more x xs r i = dite (ℕ_discrete x r) (λ e. let here = times-cons_same r x xs e in omega arith) (λ ne. let there = times-cons_other r x xs ne in omega arith)
+
+pub at_has : (xs : List ℕ) (r : ℕ) → Has xs r → (k : ℕ) × (k < length xs) × (get_or xs k 0 ≡ r)
+at_has [] r h = let none_there = times-nil r in absurd (omega arith)
+at_has (x ∷ xs) r h = dite (ℕ_discrete x r)
+    (λ e. (0, omega arith, e))
+    (λ ne. let there = times-cons_other r x xs ne in let k = at_has xs r (omega arith) in (suc k.0, (let less = k.1 in omega arith), k.2))
+
+-- a row that is found among granted rows stands there
+pub granted_found : (r : ℕ) (gs : List GrantedRow) (g : GrantedRow) → find (λ (x : GrantedRow). x.row == r) gs ≡ Some g → Has (map (λ (x : GrantedRow). x.row) gs) r
+granted_found r [] g e = absurd (cc)
+granted_found r (x ∷ gs) g e = dite (ℕ_discrete x.row r)
+    (λ z. let a = times-cons_same r x.row (map (λ (y : GrantedRow). y.row) gs) z in omega arith)
+    (λ ne. let a = times-cons_other r x.row (map (λ (y : GrantedRow). y.row) gs) ne in
+    let rest = granted_found r gs g (ap (λ b. cond b (Some x) (find (λ (y : GrantedRow). y.row == r) gs)) (sym (ne_eqb x.row r ne)) ∙ e) in omega arith)

@@ -1,5 +1,5 @@
 -- Each word has one reading.
-use Rattle.std.proofs.Common.{◌≡◌, ◌≢◌, ℕ, ◌+◌, ◌*◌, ◌/◌, ◌%◌, ◌^◌, ◌<◌, ◌≤◌, ◌==◌, Bool, true, false, cond, not, ◌&&◌, sym, refl, ap, ◌∙◌, subst, arith, eq-eqb}
+use Rattle.std.proofs.Common.{◌≡◌, ◌≢◌, ℕ, zero, suc, ◌+◌, ◌*◌, ◌/◌, ◌%◌, ◌^◌, ◌<◌, ◌≤◌, ◌==◌, Bool, true, false, cond, not, ◌&&◌, sym, refl, ap, ◌∙◌, subst, arith, eq-eqb}
 use Rattle.std.proofs.lemmas.Bool.{and_parts, and_from, and_left, eqb-true, ltb-true, lt-ltb, false_from_ne_true}
 use Rattle.table_place.specs.declared.Place.{Place}
 use Rattle.walk_core.specs.Words.{bit, link_word, leaf_word, is_link, link_row, link_generation, is_leaf, leaf_frame, leaf_write, leaf_exec, position_word, place_shown}
@@ -62,3 +62,13 @@ place_shown-position_word p h k =
 pub position_word-place_shown : (w : ℕ) → position_word (place_shown w) ≡ w
 unfolding place_shown position_word
 position_word-place_shown w = omega arith
+
+-- the prefixes of any level fit
+pub prefixes_fit : (k : ℕ) → k ≤ 5 → 512 ^ k < 2 ^ 64
+prefixes_fit zero h = omega arith
+prefixes_fit (suc zero) h = omega arith
+prefixes_fit (suc (suc zero)) h = omega arith
+prefixes_fit (suc (suc (suc zero))) h = omega arith
+prefixes_fit (suc (suc (suc (suc zero)))) h = omega arith
+prefixes_fit (suc (suc (suc (suc (suc zero))))) h = omega arith
+prefixes_fit (suc (suc (suc (suc (suc (suc k)))))) h = absurd (omega arith)

@@ -1,5 +1,5 @@
 -- When a pass may take a step. The rows that a pass stands on, holds or has in its hand are there in every good core.
---     StandsOn, HoldsLinker      the pass stands on a row;  it holds a row that links it
+--     StandsOn, Names, HoldsLinker      the pass stands on a row;  a row links another;  the pass holds a row that links it
 --     Guard      when a pass that has this may do this
 --     IsAllowed      when an event may happen
 --     MaySample, MaySweep, MayPut      what a later use of rows asks
@@ -21,14 +21,18 @@ use Rattle.walk_core.specs.Events.{pass_of}
 abbrev pub StandsOn : PassCore → ℕ → Type 0
 StandsOn v r = (s : Stand) × (v.stand ≡ Some s) × (s.row ≡ r)
 
--- an entry of a row that the pass holds links the row r
+-- an entry of the row q links the row r
+pub record Names (c : Core) (q r : ℕ) : Type 0 where
+  pub index : ℕ
+  pub inside : index < 512
+  pub link : is_link (word c (entry_at q index)) ≡ true
+  pub to_row : link_row (word c (entry_at q index)) ≡ r
+
+-- the pass holds a row that links r
 pub record HoldsLinker (c : Core) (v : PassCore) (r : ℕ) : Type 0 where
   pub row : ℕ
-  pub index : ℕ
   pub held : Has v.held row
-  pub inside : index < 512
-  pub link : is_link (word c (entry_at row index)) ≡ true
-  pub names : link_row (word c (entry_at row index)) ≡ r
+  pub names : Names c row r
 
 -- Until epochs count, nobody samples, no row leaves limbo, and a row goes into limbo with any numbers.
 abbrev pub MaySample : Core → PassCore → ℕ → Type 0
@@ -43,6 +47,9 @@ MayPut c v k = ⊤
 abbrev pub put_rows : List PutRow → List ℕ
 put_rows put = map (λ k. k.row) put
 
+abbrev pub AreMarked : PassCore → List PutRow → Type 0
+AreMarked v put = (r : ℕ) → Has (put_rows put) r → Has (unlinked_rows v) r × (times r v.held ≡ 0)
+
 -- put: rows that the pass unlinked and marked. swept: rows of limbo. taken: free rows, with those just swept
 pub record MayGive (c : Core) (v : PassCore) (put : List PutRow) (swept taken : List ℕ) : Type 0 where
   pub has_book : v.has_book ≡ true
@@ -50,7 +57,7 @@ pub record MayGive (c : Core) (v : PassCore) (put : List PutRow) (swept taken : 
   pub swept_once : IsDistinct swept
   pub taken_once : IsDistinct taken
   pub apart : AreApart (put_rows put) swept
-  pub put_marked : (r : ℕ) → Has (put_rows put) r → Has (unlinked_rows v) r × (times r v.held ≡ 0)
+  pub put_marked : AreMarked v put
   pub put_sampled : AllByRecursion (MayPut c v) put
   pub swept_unread : MaySweep c v swept
   pub taken_free : (r : ℕ) → Has taken r → Has (c.free ++ swept) r
