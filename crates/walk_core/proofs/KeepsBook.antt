@@ -53,11 +53,17 @@ turn_hits c p g there free =
       stands = stands_on m (λ q h. word_other m (epoch_at c.rows q) (λ e. omega arith)) stay refl (new_same m refl (λ x. refl)) g.stands;
     }
 
-pub turn_keeps : (c : Core) (p : ℕ) → Good c → IsAllowed c (Turn p) → Good (after c (Turn p))
-turn_keeps c p g ok =
+-- a word that is not 0 stays, and so does the pass
+pub turn_missed : (c : Core) (p : ℕ) → word c (book_at c.rows c.count) ≢ 0 → c ≡ after c (Turn p)
+turn_missed c p ne =
     let i : ℕ = book_at c.rows c.count in let n : ℕ = word c i in let v : PassCore = pass_at c p in
-    let F : Bool → Type 0 = λ b. Good (record c { words = set c.words i (either b (held_by p) n); passes = set c.passes p (cond b (record v { has_book = true; samples = no_samples }) v) }) in
-    dite (ℕ_discrete n 0) (λ free. turn_hits c p g ok.there free) (λ ne. subst F (sym (ne_eqb n 0 ne)) (subst Good (sym (unchanged c p i)) g))
+    let F : Bool → Type 0 = λ b. c ≡ record c { words = set c.words i (either b (held_by p) n); passes = set c.passes p (cond b (record v { has_book = true; samples = no_samples }) v) } in
+    subst F (sym (ne_eqb n 0 ne)) (sym (unchanged c p i))
+
+pub turn_keeps : (c : Core) (p : ℕ) → Good c → IsAllowed c (Turn p) → Good (after c (Turn p))
+turn_keeps c p g ok = dite (ℕ_discrete (word c (book_at c.rows c.count)) 0)
+    (λ free. turn_hits c p g ok.there free)
+    (λ ne. subst Good (turn_missed c p ne) g)
 
 -- What a give does to the lists
 

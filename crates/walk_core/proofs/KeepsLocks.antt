@@ -65,13 +65,17 @@ grab_hits c p r g there less free =
       stands = stands_on m (λ q h. word_other m (epoch_at c.rows q) (λ e. omega arith)) stay refl (new_same m refl (λ x. refl)) g.stands;
     }
 
-pub grab_keeps : (c : Core) (p r : ℕ) → Good c → IsAllowed c (Grab p r) → Good (after c (Grab p r))
-grab_keeps c p r g ok =
+-- a word that is not 0 stays, and so does the pass
+pub grab_missed : (c : Core) (p r : ℕ) → word c (lock_at r) ≢ 0 → c ≡ after c (Grab p r)
+grab_missed c p r ne =
     let n : ℕ = word c (lock_at r) in let v : PassCore = pass_at c p in
-    let F : Bool → Type 0 = λ b. Good (record c { words = set c.words (lock_at r) (either b (held_by p) n); passes = set c.passes p (cond b (record v { held = v.held ++ r ∷ [] }) v) }) in
-    dite (ℕ_discrete n 0)
+    let F : Bool → Type 0 = λ b. c ≡ record c { words = set c.words (lock_at r) (either b (held_by p) n); passes = set c.passes p (cond b (record v { held = v.held ++ r ∷ [] }) v) } in
+    subst F (sym (ne_eqb n 0 ne)) (sym (unchanged c p (lock_at r)))
+
+pub grab_keeps : (c : Core) (p r : ℕ) → Good c → IsAllowed c (Grab p r) → Good (after c (Grab p r))
+grab_keeps c p r g ok = dite (ℕ_discrete (word c (lock_at r)) 0)
     (λ free. grab_hits c p r g ok.there (grabbed_there c p r g ok.guard) free)
-    (λ ne. subst F (sym (ne_eqb n 0 ne)) (subst Good (sym (unchanged c p (lock_at r))) g))
+    (λ ne. subst Good (grab_missed c p r ne) g)
 
 pub release_keeps : (c : Core) (p r : ℕ) → Good c → IsAllowed c (Release p r) → Good (after c (Release p r))
 release_keeps c p r g ok =

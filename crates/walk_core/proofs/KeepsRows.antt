@@ -1,5 +1,5 @@
 -- Mark stale, open row and set up keep the core good.
-use Rattle.std.proofs.Common.{◌≡◌, ◌≢◌, ℕ, ◌+◌, ◌*◌, ◌<◌, ◌≤◌, ◌==◌, ◌⊎◌, Bool, true, false, cond, List, [], ◌∷◌, ◌++◌, map, length, get_or, sym, refl, ap, ◌∙◌, subst, inl, inr, ⊎_elim, arith, Option, Some, None, eq-eqb, ne_eqb, ltb, leb}
+use Rattle.std.proofs.Common.{◌≡◌, ◌≢◌, ℕ, ◌+◌, ◌*◌, ◌-◌, ◌^◌, ◌<◌, ◌≤◌, ◌==◌, ◌⊎◌, Bool, true, false, cond, List, [], ◌∷◌, ◌++◌, map, length, get_or, sym, refl, ap, ◌∙◌, subst, inl, inr, ⊎_elim, arith, Option, Some, None, eq-eqb, ne_eqb, ltb, leb}
 use Rattle.std.specs.List.{find, AllByRecursion}
 use Rattle.std.proofs.lemmas.Bool.{and_parts, ltb-true}
 use mathlib.Core.Logic.{dite}
@@ -16,11 +16,11 @@ use Rattle.walk_core.specs.declared.pass.GrantedRow.{GrantedRow}
 use Rattle.walk_core.specs.Words.{entry_at, lock_at, position_at, generation_at, epoch_at, book_at, held_by, stale, place_shown, position_word}
 use Rattle.walk_core.specs.Lists.{times, Has, without}
 use Rattle.walk_core.specs.Core.{Core, word, place_in, pass_at, idle, granted_rows, unlinked_rows, times_in_hand, times_out}
-use Rattle.walk_core.specs.Events.{pass_of, with_part, granted_after_part, part_place, part_word, after}
+use Rattle.walk_core.specs.Events.{pass_of, with_part, granted_after_part, part_place, part_word, HasSpelling, after}
 use Rattle.walk_core.specs.Guards.{MayWrite, IsAllowed}
 use Rattle.walk_core.specs.Good.{Good, RowLocks, IsPlaced, times_new, says_held, says_stale}
 use Rattle.walk_core.proofs.RowLists.{times-nil, times-cons_same, times-cons_other, times-cons, times_push_same, times_push_other, times_without_same, times_without_other, times_without_le, granted_found}
-use Rattle.walk_core.proofs.Spellings.{place_shown-position_word}
+use Rattle.walk_core.proofs.Spellings.{place_shown-position_word, prefixes_low}
 use Rattle.walk_core.proofs.Frames.{Moves, TreeStays, spot, word_other, word_here, pass_here, each_pass, held_same, rows_stay_lock, out_same, new_same, sizes_on, states_on, row_locks_same, book_on, links_by, links_on, stands_by, stands_on}
 use Rattle.walk_core.proofs.Relocks.{relocked}
 use Rattle.walk_core.proofs.Facts.{root_linked, hand-le-out, granted-le-new, out-le-one, held_alone, stale_unheld, hand_there}
@@ -119,6 +119,20 @@ part_keeps_rows r part (g ∷ gs) = λ i. part_keeps_row r part g i ∷ part_kee
 pub is_place_low : (levels : ℕ) (place : Place) → is_place levels place ≡ true → (place.space < 64) × (place.level ≤ levels)
 is_place_low levels place ok = let a = and_parts (ltb place.space 64) _ ok in let b = and_parts (within 1 levels place.level) _ a.1 in let d = and_parts (leb 1 place.level) _ b.0 in
     let high = ltb-true place.level (1 + levels) d.1 in (ltb-true place.space 64 a.0, omega arith)
+
+pub prefix_low : (levels : ℕ) (place : Place) → levels ≤ 5 → is_place levels place ≡ true → place.prefix < 2 ^ 45
+prefix_low levels place few ok =
+    let a = and_parts (ltb place.space 64) _ ok in let b = and_parts (within 1 levels place.level) (ltb place.prefix (512 ^ (levels - place.level))) a.1 in
+    let low = ltb-true place.prefix (512 ^ (levels - place.level)) b.1 in
+    let most = prefixes_low (levels - place.level) (omega arith) in omega arith
+
+-- a place that may be set up has a spelling
+pub has_spelling : (c : Core) (p r : ℕ) (part : SetPart) → Good c → IsAllowed c (SetUp p r part) → HasSpelling part
+has_spelling c p r (Position place) g ok =
+    let few : c.levels ≤ 5 = ⊎_elim (λ (e : c.levels ≡ 4). omega arith) (λ (e : c.levels ≡ 5). omega arith) g.sizes.bounds.some_levels in
+    let low = is_place_low c.levels place ok.guard.value in let small = low.1 in
+    (low.0, omega arith, prefix_low c.levels place few ok.guard.value)
+has_spelling c p r (Generation n) g ok = tt
 
 module _ (c : Core) (p r : ℕ) (g : Good c) where
   -- the position word of the row shows the place that was written

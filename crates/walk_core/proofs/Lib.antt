@@ -13,3 +13,5 @@ pub mod KeepsRows
 pub mod KeepsLinks
 pub mod Boot
 pub mod Keeps
+pub mod Stepped
+pub mod Roomy

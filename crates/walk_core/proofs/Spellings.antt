@@ -63,12 +63,15 @@ pub position_word-place_shown : (w : ℕ) → position_word (place_shown w) ≡ 
 unfolding place_shown position_word
 position_word-place_shown w = omega arith
 
--- the prefixes of any level fit
+-- the prefixes of any level are few
+pub prefixes_low : (k : ℕ) → k ≤ 5 → 512 ^ k ≤ 2 ^ 45
+prefixes_low zero h = omega arith
+prefixes_low (suc zero) h = omega arith
+prefixes_low (suc (suc zero)) h = omega arith
+prefixes_low (suc (suc (suc zero))) h = omega arith
+prefixes_low (suc (suc (suc (suc zero)))) h = omega arith
+prefixes_low (suc (suc (suc (suc (suc zero))))) h = omega arith
+prefixes_low (suc (suc (suc (suc (suc (suc k)))))) h = absurd (omega arith)
+
 pub prefixes_fit : (k : ℕ) → k ≤ 5 → 512 ^ k < 2 ^ 64
-prefixes_fit zero h = omega arith
-prefixes_fit (suc zero) h = omega arith
-prefixes_fit (suc (suc zero)) h = omega arith
-prefixes_fit (suc (suc (suc zero))) h = omega arith
-prefixes_fit (suc (suc (suc (suc zero)))) h = omega arith
-prefixes_fit (suc (suc (suc (suc (suc zero))))) h = omega arith
-prefixes_fit (suc (suc (suc (suc (suc (suc k)))))) h = absurd (omega arith)
+prefixes_fit k h = let low = prefixes_low k h in omega arith

@@ -4,7 +4,7 @@
 --     pass_after      what the pass has afterwards, where there are so many levels, by the number found
 --     free_after, limbo_after      the lists of the book afterwards
 --     after      the core afterwards
-use Rattle.std.specs.Prelude.{ℕ, ◌+◌, ◌^◌, ◌%◌, ◌==◌, Bool, true, false, not, ◌&&◌, cond, List, [], ◌∷◌, ◌++◌, map, slice_index_or, slice_set, Option, None, Some, nat_eq}
+use Rattle.std.specs.Prelude.{ℕ, ⊤, ◌+◌, ◌<◌, ◌^◌, ◌%◌, ◌==◌, Bool, true, false, not, ◌&&◌, cond, List, [], ◌∷◌, ◌++◌, map, slice_index_or, slice_set, Option, None, Some, nat_eq}
 use Rattle.std.specs.List.{filter}
 use prog.Atomic.{either}
 use Rattle.table_place.specs.Place.{directory, entry_place}
@@ -45,6 +45,11 @@ part_place r (Generation generation) = generation_at r
 abbrev pub part_word : SetPart → ℕ
 part_word (Position place) = position_word place
 part_word (Generation generation) = generation
+
+-- the bits of a position word have room for the place
+abbrev pub HasSpelling : SetPart → Type 0
+HasSpelling (Position place) = (place.space < 64) × (place.level < 8) × (place.prefix < 2 ^ 45)
+HasSpelling (Generation generation) = ⊤
 
 abbrev pub place_of : ℕ → ℕ → Event → ℕ
 place_of rows count (Enter p) = epoch_at rows p

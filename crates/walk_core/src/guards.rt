@@ -62,7 +62,7 @@ impl Core {
         self.words[spelled::generation_at(row)]
     }
 
-    fn place_in(&self, row: u32) -> Place
+    pub(crate) fn place_in(&self, row: u32) -> Place
         requires { row < self.now.rows }
         ensures { result ≡ core.place_in self.now row }
     {

@@ -9,6 +9,7 @@ mod machine;
 mod pass;
 mod room;
 mod state;
+mod steps;
 mod words;
 
 pub use event::{Event, SetPart};

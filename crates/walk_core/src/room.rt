@@ -1,5 +1,5 @@
 //! What one pass has, kept with room for every row.
-ghost use Rattle.std.specs.Prelude.{◌≡◌, ℕ, ◌+◌, ◌<◌, ◌≤◌, ◌↔◌, ◌++◌, ◌∷◌, [], not, map, length, nat_eq, if◌then◌else◌, IsTrue, IfOk, vec_len};
+ghost use Rattle.std.specs.Prelude.{◌≡◌, ℕ, ◌+◌, ◌<◌, ◌≤◌, ◌↔◌, ◌++◌, ◌∷◌, [], true, false, not, map, length, nat_eq, if◌then◌else◌, IsTrue, IfOk, vec_len};
 ghost use Rattle.std.specs.List.{filter};
 ghost use Rattle.std.specs.Vec.{vec_capacity};
 ghost use Rattle.walk_core.specs.Lists.{among, without};
@@ -11,6 +11,7 @@ ghost use Rattle.walk_core.specs.Rooms.{pass_core, HasRoom};
 use crate::event::SetPart;
 use crate::lists::PutRow;
 use crate::pass::{GrantedRow, SampleBounds, Stand, UnlinkedRow};
+use crate::words::{is_link, link_row};
 use std::alloc::{AllocError, Global};
 
 /// What one pass has. Its lists have room for every row.
@@ -118,6 +119,36 @@ impl PassRoom {
         ensures room { (rows : ℕ) → HasRoom rows self.old → HasRoom rows self.new }
     {
         self.granted.retain(|granted| granted.row != row);
+    }
+
+    /// The book comes with no samples.
+    pub(crate) fn take_book(&mut self)
+        ensures book { pass_core self.new ≡ record (pass_core self.old) { has_book = true; samples = core.no_samples } }
+        ensures room { (rows : ℕ) → HasRoom rows self.old → HasRoom rows self.new }
+    {
+        self.has_book = true;
+        self.samples = [None; 8];
+    }
+
+    /// The book goes, with rows of limbo and for granted rows.
+    pub(crate) fn give(&mut self, put: &[PutRow], taken: &[u32])
+        requires { vec_len self.old.granted + length taken.now ≤ vec_capacity self.old.granted }
+        ensures lists { pass_core self.new ≡ record (pass_core self.old) { has_book = false; granted = self.old.granted.items ++ map events.newly_granted taken.now; unlinked = events.unlinked_after_give put.now self.old.unlinked.items } }
+        ensures room { (rows : ℕ) → HasRoom rows self.old → HasRoom rows self.new }
+    {
+        self.has_book = false;
+        self.grant(taken);
+        self.drop_put(put);
+    }
+
+    /// A word was set: a row that it links is no longer granted.
+    pub(crate) fn link(&mut self, word: u64)
+        ensures granted { pass_core self.new ≡ record (pass_core self.old) { granted = events.granted_after_entry word self.old.granted.items } }
+        ensures room { (rows : ℕ) → HasRoom rows self.old → HasRoom rows self.new }
+    {
+        if is_link(word) {
+            self.drop_granted(link_row(word));
+        }
     }
 
     pub(crate) fn set_part(&mut self, row: u32, part: &SetPart)
