@@ -77,9 +77,9 @@ impl Core {
     }
 }
 
-// Enter, leave, look, turn.
+// Enter, look, release and mark stale.
 impl Core {
-    pub(crate) fn may_enter(&self, pass: u8) -> bool
+    fn may_enter(&self, pass: u8) -> bool
         requires { pass < self.now.count }
         ensures { IsTrue result ↔ Guard self.now (core.pass_at self.now pass) (Event.Enter pass) }
     {
@@ -87,14 +87,7 @@ impl Core {
             && self.word_at(spelled::epoch_at(self.row_count(), pass)) < 1 << 62
     }
 
-    pub(crate) fn may_leave(&self, pass: u8) -> bool
-        requires { pass < self.now.count }
-        ensures { IsTrue result ↔ Guard self.now (core.pass_at self.now pass) (Event.Leave pass) }
-    {
-        self.pass(pass).stand.is_some()
-    }
-
-    pub(crate) fn may_look(&self, pass: u8, row: u32, index: u32) -> bool
+    fn may_look(&self, pass: u8, row: u32, index: u32) -> bool
         requires { pass < self.now.count }
         ensures { IsTrue result ↔ Guard self.now (core.pass_at self.now pass) (Event.Look pass row index) }
     {
@@ -102,21 +95,14 @@ impl Core {
         index < ENTRIES && (seen.stands_on(row) || seen.holds(row))
     }
 
-    pub(crate) fn may_turn(&self, pass: u8) -> bool
-        requires { pass < self.now.count }
-        ensures { IsTrue result ↔ Guard self.now (core.pass_at self.now pass) (Event.Turn pass) }
-    {
-        !self.pass(pass).has_book
-    }
-
-    pub(crate) fn may_release(&self, pass: u8, row: u32) -> bool
+    fn may_release(&self, pass: u8, row: u32) -> bool
         requires { pass < self.now.count }
         ensures { IsTrue result ↔ Guard self.now (core.pass_at self.now pass) (Event.Release pass row) }
     {
         self.pass(pass).holds(row) && self.is_linked(row)
     }
 
-    pub(crate) fn may_mark(&self, pass: u8, row: u32) -> bool
+    fn may_mark(&self, pass: u8, row: u32) -> bool
         requires { pass < self.now.count }
         ensures { IsTrue result ↔ Guard self.now (core.pass_at self.now pass) (Event.MarkStale pass row) }
     {
@@ -127,7 +113,7 @@ impl Core {
 
 // Grab.
 impl Core {
-    pub(crate) fn may_grab(&self, pass: u8, row: u32) -> bool
+    fn may_grab(&self, pass: u8, row: u32) -> bool
         requires { pass < self.now.count }
         ensures { IsTrue result ↔ Guard self.now (core.pass_at self.now pass) (Event.Grab pass row) }
     {
@@ -163,7 +149,7 @@ impl Core {
 
 // Set entry and unlink.
 impl Core {
-    pub(crate) fn may_set(&self, pass: u8, row: u32, index: u32, word: u64) -> bool
+    fn may_set(&self, pass: u8, row: u32, index: u32, word: u64) -> bool
         requires { pass < self.now.count }
         ensures { IsTrue result ↔ Guard self.now (core.pass_at self.now pass) (Event.SetEntry pass row index word) }
     {
@@ -209,7 +195,7 @@ impl Core {
         self.levels
     }
 
-    pub(crate) fn may_unlink(&self, pass: u8, row: u32, index: u32) -> bool
+    fn may_unlink(&self, pass: u8, row: u32, index: u32) -> bool
         requires { pass < self.now.count }
         ensures { IsTrue result ↔ Guard self.now (core.pass_at self.now pass) (Event.Unlink pass row index) }
     {
@@ -237,7 +223,7 @@ impl Core {
 
 // Set up and open row.
 impl Core {
-    pub(crate) fn may_set_up(&self, pass: u8, row: u32, part: &SetPart) -> bool
+    fn may_set_up(&self, pass: u8, row: u32, part: &SetPart) -> bool
         requires { pass < self.now.count }
         ensures { IsTrue result ↔ Guard self.now (core.pass_at self.now pass) (Event.SetUp pass row part.now) }
     {
@@ -257,7 +243,7 @@ impl Core {
         }
     }
 
-    pub(crate) fn may_open(&self, pass: u8, row: u32) -> bool
+    fn may_open(&self, pass: u8, row: u32) -> bool
         requires { pass < self.now.count }
         ensures { IsTrue result ↔ Guard self.now (core.pass_at self.now pass) (Event.OpenRow pass row) }
     {
@@ -267,7 +253,7 @@ impl Core {
 
 // Give.
 impl Core {
-    pub(crate) fn may_give(&self, pass: u8, put: &PutList, swept: &RowList, taken: &RowList) -> bool
+    fn may_give(&self, pass: u8, put: &PutList, swept: &RowList, taken: &RowList) -> bool
         requires { pass < self.now.count }
         ensures { IsTrue result ↔ Guard self.now (core.pass_at self.now pass) (Event.Give pass put.now swept.now taken.now) }
     {
@@ -278,13 +264,7 @@ impl Core {
         if !put_is_distinct(put.rows()) || !is_distinct(taken.rows()) {
             return false;
         }
-        are_marked(giver, put.rows()) && self.are_free(taken.rows())
-    }
-
-    fn are_free(&self, taken: &[u32]) -> bool
-        ensures { IsTrue result ↔ ((r : ℕ) → Has taken.now r → Has self.now.free r) }
-    {
-        are_listed(&self.free, taken)
+        are_marked(giver, put.rows()) && are_listed(&self.free, taken.rows())
     }
 }
 
@@ -369,11 +349,11 @@ impl Core {
         }
         match event {
             Event::Enter { .. } => self.may_enter(pass),
-            Event::Leave { .. } => self.may_leave(pass),
+            Event::Leave { .. } => self.pass(pass).stand.is_some(),
             Event::Look { row, index, .. } => self.may_look(pass, *row, *index),
             Event::Grab { row, .. } => self.may_grab(pass, *row),
             Event::Release { row, .. } => self.may_release(pass, *row),
-            Event::Turn { .. } => self.may_turn(pass),
+            Event::Turn { .. } => !self.pass(pass).has_book,
             Event::Give {
                 put,
                 swept,

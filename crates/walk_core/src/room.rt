@@ -106,21 +106,6 @@ impl PassRoom {
         self.held.retain(|held| *held != row);
     }
 
-    pub(crate) fn grant(&mut self, rows: &[u32])
-        requires { vec_len self.old.granted + length rows.now ≤ vec_capacity self.old.granted }
-        ensures granted { pass_core self.new ≡ record (pass_core self.old) { granted = self.old.granted.items ++ map events.newly_granted rows.now } }
-        ensures room { (n : ℕ) → HasRoom n self.old → HasRoom n self.new }
-    {
-        push_granted(&mut self.granted, rows);
-    }
-
-    pub(crate) fn drop_granted(&mut self, row: u32)
-        ensures granted { pass_core self.new ≡ record (pass_core self.old) { granted = filter (λ g. not (nat_eq g.row row)) self.old.granted.items } }
-        ensures room { (rows : ℕ) → HasRoom rows self.old → HasRoom rows self.new }
-    {
-        self.granted.retain(|granted| granted.row != row);
-    }
-
     /// The book comes with no samples.
     pub(crate) fn take_book(&mut self)
         ensures book { pass_core self.new ≡ record (pass_core self.old) { has_book = true; samples = core.no_samples } }
@@ -137,7 +122,7 @@ impl PassRoom {
         ensures room { (rows : ℕ) → HasRoom rows self.old → HasRoom rows self.new }
     {
         self.has_book = false;
-        self.grant(taken);
+        push_granted(&mut self.granted, taken);
         self.drop_put(put);
     }
 
@@ -147,7 +132,8 @@ impl PassRoom {
         ensures room { (rows : ℕ) → HasRoom rows self.old → HasRoom rows self.new }
     {
         if is_link(word) {
-            self.drop_granted(link_row(word));
+            let row = link_row(word);
+            self.granted.retain(|granted| granted.row != row);
         }
     }
 

@@ -2,7 +2,7 @@ use Rattle.std.proofs.Common.{◌≡◌, ◌==◌, ℕ, List, [], true, length, 
 use Rattle.walk_core.specs.declared.lists.PutRow.{PutRow}
 use Rattle.walk_core.specs.declared.pass.PassCore.{PassCore}
 use Rattle.walk_core.specs.Lists.{times, Has, IsDistinct}
-use Rattle.walk_core.specs.Core.{pass_at}
+use Rattle.walk_core.specs.Core.{Core, pass_at}
 use Rattle.walk_core.specs.Guards.{AreMarked, put_rows}
 use Rattle.walk_core.specs.Rooms.{pass_core}
 use Rattle.walk_core.proofs.RowLists.{times-nil}
@@ -16,6 +16,7 @@ returns-then-are_marked c =
     let none : c.args.swept.now ≡ [] = sym c.rows.ensures ∙ empty_is c.rows.result.now (sym c.is_empty.ensures ∙ c.if-not-is_empty.false) in
     let put_once : IsDistinct (put_rows c.args.put.now) = subst (λ (put : List PutRow). IsDistinct (put_rows put)) c.rows-2.ensures (c.put_is_distinct.ensures.0 c.if-not-put_is_distinct.false) in
     let taken_once : IsDistinct c.args.taken.now = subst IsDistinct c.rows-else-not-put_is_distinct.ensures (c.is_distinct.ensures.0 c.if-not-is_distinct.false) in
+    let free : c.deref.result.now ≡ c.args.self.now.free = c.deref.ensures.value ∙ ap (λ (s : Core). s.free) c.self.view_is in
     let marked : AreMarked v c.args.put.now = subst (λ (put : List PutRow). AreMarked v put) c.rows-3.ensures (subst (λ (u : PassCore). AreMarked u c.rows-3.result.now) is (c.are_marked.ensures.0 c.if-are_marked.true)) in (
       λ yes. record {
         has_book = ap (λ (u : PassCore). u.has_book) (sym is) ∙ c.if-not-giver.false;
@@ -26,7 +27,7 @@ returns-then-are_marked c =
         put_marked = marked;
         put_sampled = all_put c.args.self.now v c.args.put.now;
         swept_unread = none;
-        taken_free = λ r h. has_free c.args.self.now.free c.args.swept.now r none (c.are_free.ensures.0 yes r (subst (λ (xs : List ℕ). Has xs r) (sym c.rows-then-are_marked.ensures) h));
+        taken_free = λ r h. has_free c.args.self.now.free c.args.swept.now r none (subst (λ (xs : List ℕ). Has xs r) free (c.are_listed.ensures.0 yes r (subst (λ (xs : List ℕ). Has xs r) (sym c.rows-then-are_marked.ensures) h)));
       },
-      λ may. c.are_free.ensures.1 (λ r h. free_has c.args.self.now.free c.args.swept.now r none (may.taken_free r (subst (λ (xs : List ℕ). Has xs r) c.rows-then-are_marked.ensures h))),
+      λ may. c.are_listed.ensures.1 (λ r h. subst (λ (xs : List ℕ). Has xs r) (sym free) (free_has c.args.self.now.free c.args.swept.now r none (may.taken_free r (subst (λ (xs : List ℕ). Has xs r) c.rows-then-are_marked.ensures h)))),
     )
