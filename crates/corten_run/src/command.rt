@@ -1,7 +1,8 @@
 //! The words of the command line.
-ghost use Rattle.std.specs.Prelude.{◌≡◌, map};
+ghost use Rattle.std.specs.Prelude.{map, IfSome, IfNone};
 ghost use Rattle.std.specs.String.{string_bytes};
-ghost use Rattle.corten_run.specs.Commands.{command_of};
+ghost use Rattle.corten_run.specs.Commands.{Names};
+ghost use Rattle.corten_run.specs.declared.command.Command.{Command};
 
 /// What the program is told to do.
 #[derive(Clone, Copy, Debug, PartialEq, Eq)]
@@ -12,10 +13,11 @@ pub enum Command {
 
 /// The command that the words after the program's name spell.
 pub fn read_command(words: &[String]) -> Option<Command>
-    ensures { result ≡ command_of (map string_bytes words.now) }
+    ensures found { IfSome result (Names (map string_bytes words.now)) }
+    ensures none { IfNone result ((command : Command) → ¬ (Names (map string_bytes words.now) command)) }
 {
     match words {
-        [word] if word.as_bytes() == b"solo" => Some(Command::Solo),
+        [word] if word.as_str() == "solo" => Some(Command::Solo),
         _ => None,
     }
 }

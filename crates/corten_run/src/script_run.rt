@@ -1,12 +1,52 @@
 //! A script run on the plain machine, its history written as it goes.
-ghost use Rattle.std.specs.Prelude.{◌≡◌, ◌≤◌, ◌<◌, ◌++◌, map, length, OnOk, MatchResult};
+ghost use Rattle.std.specs.Prelude.{◌≡◌, ◌≤◌, ◌<◌, ◌+◌, ◌++◌, length, All};
 ghost use Rattle.page_map.specs.State.{IsConsistent};
+ghost use Rattle.page_map.specs.Step.{step};
+ghost use Rattle.text_words.specs.Layout.{ended, text};
+ghost use Rattle.mm_script.specs.CallLine.{IsCall};
+ghost use Rattle.mm_script.specs.ScriptText.{IsScript};
+ghost use Rattle.history_text.specs.Accounting.{account_lines};
+ghost use Rattle.history_text.specs.HistoryText.{answer_line};
+ghost use Rattle.history_text.specs.Outcomes.{GoesOn, IsWritten};
+ghost use Rattle.corten_run.specs.Solo.{answered, state_after_calls, all_answered, state_after_threads, lines_of, solo_text};
 
-use corten_base::{Call, Sink};
+use corten_base::{Accounts, Call, CallList, Sink};
 use history_text::{Written, pass_on, pass_on_many, push_accounts, push_entry, push_header};
-use mm_model::Plain;
+use mm_model::{Plain, StepFault};
 use mm_script::Script;
-use std::alloc::{AllocError, Global};
+use std::alloc::Global;
+
+/// Answers one call of a thread and writes it.
+fn answer_call<K: Sink>(
+    alloc: Global,
+    plain: &mut Plain,
+    thread: u8,
+    call: &Call,
+    waiting: &mut Vec<u8>,
+    sink: &mut K,
+) -> Written
+    requires thread { thread < 8 }
+    requires call { IsCall call.now }
+    requires state { IsConsistent plain.old }
+    ensures written { GoesOn (K.held sink.old) (K.held sink.new) (K.faults sink.old) (K.faults sink.new)
+        (waiting.old.items ++ ended (answer_line thread call.now (step plain.old thread call.now 0).0)) waiting.new.items result }
+    ensures after { result ≡ Written.Whole → plain.new ≡ (step plain.old thread call.now 0).1 }
+    ensures count { K.faults sink.old ≤ K.faults sink.new }
+{
+    let reply = match plain.step(alloc, thread, call, 0) {
+        Ok(reply) => reply,
+        Err(StepFault::NoMemory) => return Written::NoMemory,
+        Err(StepFault::NotLegal) => unreachable!(),
+    };
+    if push_entry(waiting, thread, call, &reply).is_err() {
+        return Written::NoMemory;
+    }
+    if pass_on_many(waiting, sink) {
+        Written::Whole
+    } else {
+        Written::Failed
+    }
+}
 
 /// Answers the calls of one thread, one after another, and writes each.
 fn answer_calls<K: Sink>(
@@ -17,16 +57,19 @@ fn answer_calls<K: Sink>(
     waiting: &mut Vec<u8>,
     sink: &mut K,
 ) -> Written
+    requires thread { thread < 8 }
+    requires calls { All IsCall calls.now }
+    requires state { IsConsistent plain.old }
+    ensures written { GoesOn (K.held sink.old) (K.held sink.new) (K.faults sink.old) (K.faults sink.new)
+        (waiting.old.items ++ lines_of (answered plain.old thread calls.now)) waiting.new.items result }
+    ensures after { result ≡ Written.Whole → plain.new ≡ state_after_calls plain.old thread calls.now }
+    ensures count { K.faults sink.old ≤ K.faults sink.new }
 {
     for call in calls {
-        let Ok(reply) = plain.step(alloc, thread, call, 0) else {
-            return Written::NoMemory;
-        };
-        if push_entry(waiting, thread, call, &reply).is_err() {
-            return Written::NoMemory;
-        }
-        if !pass_on_many(waiting, sink) {
-            return Written::Failed;
+        match answer_call(alloc, plain, thread, call, waiting, sink) {
+            Written::Whole => {}
+            Written::Failed => return Written::Failed,
+            Written::NoMemory => return Written::NoMemory,
         }
     }
     Written::Whole
@@ -36,38 +79,62 @@ fn answer_calls<K: Sink>(
 fn answer_threads<K: Sink>(
     alloc: Global,
     plain: &mut Plain,
-    script: &Script,
+    threads: &[CallList],
     waiting: &mut Vec<u8>,
     sink: &mut K,
 ) -> Written
+    requires threads { length threads.now ≤ 8 }
+    requires calls { All (All IsCall) threads.now }
+    requires state { IsConsistent plain.old }
+    ensures written { GoesOn (K.held sink.old) (K.held sink.new) (K.faults sink.old) (K.faults sink.new)
+        (waiting.old.items ++ lines_of (all_answered plain.old 0 threads.now)) waiting.new.items result }
+    ensures after { result ≡ Written.Whole → plain.new ≡ state_after_threads plain.old 0 threads.now }
+    ensures count { K.faults sink.old ≤ K.faults sink.new }
 {
-    let mut thread = 0;
-    for calls in script.threads.list() {
-        let written = answer_calls(alloc, plain, thread, calls.list(), waiting, sink);
-        if written != Written::Whole {
-            return written;
+    let mut thread = 0u8;
+    for calls in threads {
+        match answer_calls(alloc, plain, thread, calls.list(), waiting, sink) {
+            Written::Whole => {}
+            Written::Failed => return Written::Failed,
+            Written::NoMemory => return Written::NoMemory,
         }
         thread += 1;
     }
     Written::Whole
 }
 
+/// Writes what waits and the accounts.
+fn finish<K: Sink>(waiting: &mut Vec<u8>, accounts: &Accounts, sink: &mut K) -> Written
+    ensures written { IsWritten (K.held sink.old) (K.held sink.new) (K.faults sink.old) (K.faults sink.new)
+        (waiting.old.items ++ text (account_lines accounts.now)) result }
+    ensures count { K.faults sink.old ≤ K.faults sink.new }
+{
+    let Ok(()) = push_accounts(waiting, accounts) else {
+        return Written::NoMemory;
+    };
+    if pass_on(waiting, sink) {
+        Written::Whole
+    } else {
+        Written::Failed
+    }
+}
+
 /// Runs a script on the plain machine and writes the text of its history.
 pub fn write_solo<K: Sink>(alloc: Global, script: &Script, sink: &mut K) -> Written
+    requires { IsScript script.now }
+    ensures written { IsWritten (K.held sink.old) (K.held sink.new) (K.faults sink.old) (K.faults sink.new) (solo_text script.now) result }
+    ensures count { K.faults sink.old ≤ K.faults sink.new }
 {
     let Ok(mut plain) = Plain::new(alloc, script.limits) else {
         return Written::NoMemory;
     };
     let mut waiting = Vec::new(alloc);
-    if push_header(&mut waiting, script.limits).is_err() {
+    let Ok(()) = push_header(&mut waiting, script.limits) else {
         return Written::NoMemory;
+    };
+    match answer_threads(alloc, &mut plain, script.threads.list(), &mut waiting, sink) {
+        Written::Whole => finish(&mut waiting, &plain.accounts(0), sink),
+        Written::Failed => Written::Failed,
+        Written::NoMemory => Written::NoMemory,
     }
-    let written = answer_threads(alloc, &mut plain, script, &mut waiting, sink);
-    if written != Written::Whole {
-        return written;
-    }
-    if push_accounts(&mut waiting, &plain.accounts(0)).is_err() {
-        return Written::NoMemory;
-    }
-    if pass_on(&mut waiting, sink) { Written::Whole } else { Written::Failed }
 }

@@ -1,102 +1,100 @@
 //! The plain machine.
-ghost use Rattle.std.specs.Prelude.{◌≡◌, ℕ, ◌+◌, ◌<◌, ◌≤◌, ◌^◌, Some, None, IsTrue, nat_eq, nat_lt, nat_le, true, not, IsSome};
-ghost use Rattle.std.specs.List.{filter};
-ghost use Rattle.std.specs.Option.{unwrap_or};
-ghost use Rattle.std.specs.Ordering.{nat_cmp};
+ghost use Rattle.std.specs.Prelude.{◌≡◌, [], ◌+◌, ◌≤◌, IfOk};
+ghost use Rattle.std.specs.Option.{option_map};
 ghost use Rattle.std.specs.FinMap as map;
-ghost use Rattle.page_map.specs.Change.{change};
-ghost use Rattle.corten_base.specs.declared.calls.Call.TheVariants as call;
-ghost use Rattle.page_map.specs.Effect.{state_after};
-ghost use Rattle.page_map.specs.Step.{refusal};
-ghost use Rattle.table_place.specs.Place.{is_inside, pages_of};
+ghost use Rattle.page_map.specs.Cell.{status_of};
+ghost use Rattle.page_map.specs.State.{IsWithinLimits, start, linked, accounts};
 
-use table_place::Place;
+use crate::fronts::Fronts;
+use crate::owners::Owners;
 use crate::space::AddressSpace;
-use corten_base::Limits;
-use std::collections::{BTreeMap, BTreeSet};
+use crate::spaces::Spaces;
+use crate::tables::Tables;
+use corten_base::{Accounts, Limits, SpaceId, Status};
+use std::alloc::{AllocError, Global};
 use std::marker::Model;
+use table_place::Place;
 
+/// The plain machine: for each space that is present a finite map from pages to cells, and the page tables
+/// above them.
 #[derive(Drop)]
 pub struct Plain {
-    spaces: BTreeMap<u8, AddressSpace>,
-    tables: BTreeSet<Place>,
-    limits: Limits,
+    pub(crate) spaces: Spaces,
+    pub(crate) tables: Tables,
+    pub(crate) limits: Limits,
+    pub(crate) frames: Owners,
+    pub(crate) slots: Owners,
+    pub(crate) fronts: Fronts,
 }
 
 impl Model for Plain {
     ghost use Rattle.std.specs.Prelude.{[]};
-    ghost use Rattle.std.specs.FinMap as map;
-    ghost use Rattle.std.specs.FinSet as set;
     ghost use Rattle.page_map.specs.State.{State};
     ghost use Rattle.page_map.specs.StateCode.{state_code};
+    ghost use Rattle.mm_model.specs.Plain.{IsSound};
 
     ghost Value = { State };
 
     ghost coded = { state_code };
 
-    ghost view = { λ a. record { spaces = map.from_entries a.spaces.entries; tables = set.from_list a.tables.keys; limits = a.limits; files = [] } };
+    ghost view = { λ a. record { spaces = a.spaces; tables = a.tables; limits = a.limits; files = [] } };
+
+    ghost invariant = { λ a. IsSound (record { spaces = a.spaces; tables = a.tables; limits = a.limits; files = [] }) a.frames a.slots a.fronts };
 }
 
-/// The number of pages in the span of a table below the root.
-fn span(level: u8) -> u64
-    requires { level < 4 }
-    ensures { result ≡ 512 ^ level }
-{
-    match level {
-        0 => 1,
-        1 => 512,
-        2 => 262_144,
-        _ => 134_217_728,
-    }
-}
-
-/// Whether a table is below the root and its whole span lies in a range of pages.
-fn is_covered(p: &Place, space: u8, first: u64, count: u64) -> bool
-    ensures { result ≡ is_inside 4 space first count p.now }
-{
-    if p.space != space || p.level >= 4 {
-        return false;
-    }
-    let pages = u128::from(span(p.level));
-    let start = u128::from(p.prefix) * pages;
-    u128::from(first) <= start && start + pages <= u128::from(first) + u128::from(count)
-}
-
-/// How many pages a length covers.
-fn pages(len: u64) -> u64
-    ensures { result ≡ pages_of len }
-{
-    len / 4096 + if len % 4096 == 0 { 0 } else { 1 }
-}
-
-/// Makes the pages of a range of one space Invalid.
-fn clear(spaces: &mut BTreeMap<u8, AddressSpace>, space: u8, first: u64, count: u64)
-    requires fits { first + count < 2 ^ 64 }
-    requires present { IsSome (map.get (map.from_entries {R = nat_cmp} spaces.old.entries) space) }
-    ensures { map.from_entries spaces.new.entries ≡ map.insert {R = nat_cmp} (map.from_entries spaces.old.entries) space
-        (change (unwrap_or (map.get (map.from_entries {R = nat_cmp} spaces.old.entries) space) map.empty) first count (λ _ _. None)) }
-{
-    if let Some(cells) = spaces.get_mut(&space) {
-        cells.unmap(first, count);
-    }
-}
-
-/// Removes the tables whose spans lie in a range.
-fn give_up(tables: &mut BTreeSet<Place>, space: u8, first: u64, count: u64)
-    ensures { tables.new.keys ≡ filter (λ p. not (is_inside 4 space first count p)) tables.old.keys }
-{
-    tables.retain(|p| !is_covered(p, space, first, count));
-}
+/// The page table at the top of space 0.
+const FIRST_ROOT: Place = Place {
+    space: 0,
+    level: 4,
+    prefix: 0,
+};
 
 impl Plain {
-    /// Makes the pages of a range Invalid, where nothing refuses it.
-    fn unmap(&mut self, space: u8, at: u64, len: u64)
-        requires { refusal self.old 0 (call.Unmap space at len) 0 ≡ None }
-        ensures { self.new ≡ state_after self.old 0 (call.Unmap space at len) }
+    /// The machine in which space 0 is present and empty.
+    pub fn new(alloc: Global, limits: Limits) -> Result<Plain, AllocError>
+        requires { IsWithinLimits limits }
+        ensures ok { IfOk result (λ plain. plain ≡ start limits []) }
+        ensures fits { IfOk result (λ plain. linked plain ≤ plain.limits.tables) }
     {
-        let first = at / 4096;
-        let count = pages(len);
-        clear(&mut self.spaces, space, first, count);
-        give_up(&mut self.tables, space, first, count);
+        let mut spaces = Spaces::new(alloc);
+        spaces.insert(0, AddressSpace::new(alloc))?;
+        let mut tables = Tables::new(alloc);
+        tables.insert(FIRST_ROOT)?;
+        Ok(Plain {
+            spaces,
+            tables,
+            limits,
+            frames: Owners::new(alloc, limits.frames)?,
+            slots: Owners::new(alloc, limits.swap)?,
+            fronts: Fronts::new(alloc)?,
+        })
+    }
+
+    /// What stands at a page of a space; `None` where the space is absent.
+    pub fn status(&self, space: SpaceId, page: u64) -> Option<Status>
+        ensures { result ≡ option_map (λ cells. status_of (map.get cells page)) (map.get self.now.spaces space) }
+    {
+        let cells = self.spaces.get(space.number())?;
+        Some(cells.status(page))
+    }
+
+    /// How many numbers are in use, where so many page tables are in limbo.
+    pub fn accounts(&self, limbo: u32) -> Accounts
+        requires { linked self.now + limbo ≤ self.now.limits.tables }
+        ensures { result ≡ accounts self.now limbo }
+    {
+        let frames_free = self.frames.free();
+        let swap_free = self.slots.free();
+        Accounts {
+            frames: self.limits.frames,
+            frames_free,
+            frames_mapped: self.limits.frames - frames_free,
+            swap: self.limits.swap,
+            swap_free,
+            swap_used: self.limits.swap - swap_free,
+            tables: self.limits.tables,
+            linked: self.tables.len() as u32,
+            limbo,
+        }
     }
 }

@@ -1,12 +1,11 @@
 -- Each byte of memory after a call, and after a list of calls.
-use Rattle.std.proofs.Common.{◌≡◌, ℕ, ◌+◌, ◌-◌, ◌*◌, ◌/◌, ◌%◌, ◌<◌, ◌≤◌, Bool, true, false, cond, ◌&&◌, List, [], ◌∷◌, length, get_or, refl, sym, ap, subst, ◌∙◌, arith}
-use mathlib.Core.Bool.{true≢false}
-use Rattle.std.specs.Prelude.{Option, Some, None, is_some, nat_eq, replicate}
-use Rattle.std.specs.Option.{unwrap_or, option_map, option_map_or}
+use Rattle.std.proofs.Common.{◌≡◌, ℕ, ◌+◌, ◌-◌, ◌/◌, ◌%◌, ◌<◌, ◌≤◌, Bool, true, false, cond, ◌&&◌, List, [], ◌∷◌, length, get_or, refl, sym, ap, ◌∙◌, arith}
+use Rattle.std.specs.Prelude.{Option, Some, None, nat_eq}
+use Rattle.std.specs.Option.{option_map, option_map_or}
 use Rattle.std.specs.List.{AllByRecursion}
 use Rattle.std.specs.FinMap as fin
-use Rattle.std.proofs.lemmas.List.{get_or-replicate, length-replicate}
-use Rattle.std.proofs.lemmas.Bool.{eqb-true, eq-eqb, false_from_ne_true}
+use Rattle.std.proofs.lemmas.List.{get_or-replicate}
+use Rattle.std.proofs.lemmas.Bool.{eqb-true, false_from_ne_true}
 use Rattle.std.specs.Cmp.{nat_eq_equiv}
 use Rattle.corten_base.specs.declared.permissions.Perm.{Perm}
 use Rattle.corten_base.specs.declared.calls.Backing.{Backing}
@@ -20,28 +19,26 @@ use Rattle.corten_base.specs.declared.calls.Reply.TheVariants as reply
 use Rattle.corten_base.specs.declared.calls.TxnOp.TheVariants as op
 use Rattle.table_place.specs.Range.{within}
 use Rattle.table_place.specs.Place.{pages_of}
-use Rattle.table_place.proofs.Tables.{in_range, to_range}
+use Rattle.table_place.proofs.Tables.{in_range}
 use Rattle.page_map.specs.declared.cell.Cell.{Cell}
 use Rattle.page_map.specs.declared.cell.Cell.TheVariants.{Anon, File, Mapped, Swapped}
 use Rattle.page_map.specs.Change.{change}
-use Rattle.page_map.specs.Takes.{Grant, granted}
+use Rattle.page_map.specs.Takes.{granted}
 use Rattle.page_map.specs.Cell.{contents, with_perm, zeros}
 use Rattle.page_map.specs.State.{State, AddressSpace, IsConsistent, space_at, cell_at}
-use Rattle.page_map.specs.Access.{Access, loaded, after_access}
+use Rattle.page_map.specs.Access.{Access, after_access}
 use Rattle.page_map.specs.Mapping.{backed, after_op}
 use Rattle.page_map.specs.Swap.{out_to, in_to, moved, moved_to}
-use Rattle.page_map.specs.Spaces.{least_absent}
 use Rattle.page_map.specs.Effect.{answer, state_after, placed_at, is_new, frame_grants, slot_grants}
 use Rattle.page_map.specs.History.{after, entry_step, limbo_of}
 use Rattle.page_map.specs.Memory.{byte_at, bytes_at, names_key, may_write, LeavesBytes, is_refusal}
 use Rattle.page_map.specs.Step.{step, refusal}
 use Rattle.page_map.proofs.Range.{get-change}
-use Rattle.page_map.proofs.Steps.{Passed, passed, accepted, by_step, not_none}
+use Rattle.page_map.proofs.Steps.{Passed, passed, accepted, by_step}
 use Rattle.page_map.proofs.Cells.{changed, cell_changed}
 use Rattle.page_map.proofs.Named.{after_unnamed}
 use Rattle.page_map.proofs.Memory.{accepted_by, loaded_is, accessed_byte}
 use Rattle.page_map.proofs.StepKeeps.{step_keeps}
-use Rattle.page_map.proofs.Written.{is_mapped}
 
 -- a load replies the bytes that stand there
 pub load_replies : (st : State) (thread limbo space at len : ℕ) (bytes : List ℕ) → IsConsistent st → (step st thread (call.Load space at len) limbo).0 ≡ reply.Bytes bytes → bytes ≡ bytes_at st space at len

@@ -1,13 +1,12 @@
 -- The tables after a call: those that it wants are there, and those that it doesn't give up stay.
 use Rattle.std.proofs.Common.{◌≡◌, ℕ, ◌+◌, ◌-◌, ◌^◌, ◌<◌, ◌≤◌, Bool, true, false, cond, not, ◌&&◌, ◌||◌, ◌⊎◌, inl, inr, List, [], ◌∷◌, ◌++◌, refl, sym, ap, subst, ◌∙◌, arith}
 use mathlib.Core.Bool.{true≢false}
-use Rattle.std.specs.Prelude.{Option, Some, None, is_some, nat_eq, nat_lt}
-use Rattle.std.specs.List.{list_any, flat_map, AllByRecursion}
+use Rattle.std.specs.List.{list_any}
 use Rattle.std.specs.Ordering.{eq_by_cmp}
 use Rattle.std.specs.Cmp.{Equal-is}
 use Rattle.std.specs.FinSet as set
 use Rattle.std.specs.FinSet.{same_set, len-insert, contains-union, contains-retain, contains-from_list}
-use Rattle.std.proofs.lemmas.Bool.{and_parts, and_from, or_cases, or_left, or_right, not_from_false, not-true, lt-ltb, le-ltb}
+use Rattle.std.proofs.lemmas.Bool.{and_parts, and_from, or_cases, or_left, or_right, not_from_false, not-true, lt-ltb}
 use Rattle.table_place.specs.declared.Place.{Place}
 use Rattle.table_place.specs.Range.{within}
 use Rattle.table_place.specs.Place.{place_cmp, root, place_of, parent, is_place, is_user_range, above, is_above}

@@ -1,5 +1,5 @@
 -- Each step keeps the facts of a state.
-use Rattle.std.proofs.Common.{◌≡◌, ℕ, ◌+◌, ◌-◌, ◌*◌, ◌/◌, ◌^◌, ◌<◌, ◌≤◌, Bool, true, false, cond, ◌&&◌, List, [], ◌∷◌, length, refl, sym, ap, subst, ◌∙◌, arith}
+use Rattle.std.proofs.Common.{◌≡◌, ℕ, ◌+◌, ◌*◌, ◌/◌, ◌^◌, ◌<◌, ◌≤◌, Bool, true, false, cond, ◌&&◌, List, [], ◌∷◌, length, refl, sym, ap, ◌∙◌, arith}
 use mathlib.Core.Bool.{true≢false}
 use Rattle.std.specs.Prelude.{Option, Some, None, is_some, nat_lt, nat_le}
 use Rattle.std.specs.Option.{unwrap_or, option_map}
@@ -14,16 +14,14 @@ use Rattle.corten_base.specs.declared.calls.TxnOp.{TxnOp}
 use Rattle.corten_base.specs.declared.calls.TxnOp.TheVariants as op
 use Rattle.corten_base.specs.declared.calls.Why.{Why}
 use Rattle.corten_base.specs.declared.permissions.Perm.{Perm}
-use Rattle.table_place.specs.declared.Place.{Place}
 use Rattle.table_place.specs.Place.{pages_of, is_user_range, is_page_range}
 use Rattle.page_map.specs.Tables.{need}
-use Rattle.page_map.specs.State.{State, IsConsistent, levels, linked, space_at, is_present, unused_frames, unused_slots}
+use Rattle.page_map.specs.State.{State, IsConsistent, levels, linked, space_at, unused_frames, unused_slots}
 use Rattle.page_map.specs.Mapping.{is_mappable, is_backing, is_right_within, undone, gap}
 use Rattle.page_map.specs.Effect.{wanted_tables, is_given_up, state_after, wanting_frames_of, wanting_slots_of}
-use Rattle.page_map.specs.Step.{step, refusal, refused_unless, no_tables, no_frames, no_swap}
-use Rattle.page_map.proofs.Steps.{Passed, passed, refused, accepted, not_none}
+use Rattle.page_map.proofs.Steps.{Passed, passed, not_none}
 use Rattle.page_map.proofs.Unmapped.{held_of}
-use Rattle.page_map.proofs.Mappings.{IsOver, some_pages, page_range, right_over, all_over, gap_user, ops_keep}
+use Rattle.page_map.proofs.Mappings.{IsOver, some_pages, right_over, all_over, gap_user, ops_keep}
 use Rattle.page_map.proofs.Touched.{access_keeps, out_keeps, in_keeps}
 
 module _ (st : State) (thread : ℕ) (c : Call) (limbo : ℕ) (ok : Passed st thread c limbo) where

@@ -1,11 +1,10 @@
 -- Mapping operations keep the facts of a state.
-use Rattle.std.proofs.Common.{◌≡◌, ℕ, ◌+◌, ◌-◌, ◌*◌, ◌/◌, ◌%◌, ◌^◌, ◌<◌, ◌≤◌, Bool, true, false, cond, not, ◌&&◌, List, [], ◌∷◌, ◌++◌, refl, sym, ap, subst, ◌∙◌, arith}
+use Rattle.std.proofs.Common.{◌≡◌, ℕ, ◌+◌, ◌-◌, ◌/◌, ◌%◌, ◌^◌, ◌<◌, ◌≤◌, Bool, true, false, cond, ◌&&◌, List, [], ◌∷◌, refl, sym, ◌∙◌, arith}
 use mathlib.Core.Bool.{true≢false}
-use Rattle.std.specs.Prelude.{Option, Some, None, is_some, nat_eq, nat_lt, nat_le}
+use Rattle.std.specs.Prelude.{Option, Some, None, nat_eq, nat_lt}
 use Rattle.std.specs.Option.{option_map, option_or}
 use Rattle.std.specs.List.{flat_map, AllByRecursion}
 use Rattle.std.specs.Ordering.{eq_by_cmp}
-use Rattle.std.specs.FinMap as fin
 use Rattle.std.specs.FinSet as set
 use Rattle.std.proofs.lemmas.Bool.{and_parts, and_from, le-leb, lt-ltb, ltb-true, or_left, or_right}
 use Rattle.corten_base.specs.declared.calls.TxnOp.{TxnOp}
@@ -15,10 +14,9 @@ use Rattle.corten_base.specs.declared.calls.Why.TheVariants as why
 use Rattle.table_place.specs.declared.Place.{Place}
 use Rattle.table_place.specs.Range.{lies_in}
 use Rattle.table_place.specs.Place.{place_cmp, place_of, pages_of, is_user_range, is_page_range}
-use Rattle.page_map.specs.Takes.{Grant, granted}
 use Rattle.page_map.specs.Tables.{changed_tables, need}
 use Rattle.page_map.specs.State.{State, AddressSpace, IsConsistent, levels, linked, space_at, is_present}
-use Rattle.page_map.specs.Mapping.{is_right, is_right_within, op_first, op_pages, is_map, refused_op, after_op, after_ops, why_undone, undone, gap, arena_first, is_free}
+use Rattle.page_map.specs.Mapping.{is_right, is_right_within, op_first, op_pages, refused_op, after_op, after_ops, why_undone, undone, gap, arena_first, is_free}
 use Rattle.page_map.specs.Effect.{above_op}
 use Rattle.page_map.proofs.Steps.{not_none}
 use Rattle.page_map.proofs.Above.{any_append}

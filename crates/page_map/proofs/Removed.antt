@@ -1,25 +1,24 @@
 -- `unmap` keeps the facts of a state: with the pages go the tables whose spans lie in the range.
-use Rattle.std.proofs.Common.{◌≡◌, ℕ, ◌+◌, ◌*◌, ◌/◌, ◌<◌, ◌≤◌, Bool, true, false, cond, List, [], ◌∷◌, refl, sym, ap, subst, ◌∙◌, arith, ◌⊎◌, inl, inr}
+use Rattle.std.proofs.Common.{◌≡◌, ℕ, ◌/◌, ◌<◌, ◌≤◌, Bool, true, false, [], sym, ◌∙◌, arith, inl, inr}
 use mathlib.Core.Bool.{true≢false}
-use Rattle.std.specs.Prelude.{Option, Some, None, nat_eq}
-use Rattle.std.specs.FinMap as fin
+use Rattle.std.specs.Prelude.{Some, None, nat_eq}
 use Rattle.std.specs.FinSet as set
 use Rattle.std.proofs.lemmas.Bool.{eqb-false, false_from_ne_true}
 use Rattle.corten_base.specs.declared.calls.Call.TheVariants as call
 use Rattle.corten_base.specs.declared.calls.TxnOp.TheVariants as op
 use Rattle.table_place.specs.declared.Place.{Place}
 use Rattle.table_place.specs.Range.{within}
-use Rattle.table_place.specs.Place.{place_cmp, root, place_of, parent, is_inside, pages_of}
+use Rattle.table_place.specs.Place.{root, place_of, parent, is_inside, pages_of}
 use Rattle.table_place.proofs.Tables.{inside_parts, inside_key, inside_parent}
 use Rattle.page_map.specs.declared.cell.Cell.{Cell}
 use Rattle.page_map.specs.Tables.{Tables, changed_tables}
-use Rattle.page_map.specs.State.{State, AddressSpace, IsConsistent, levels, space_at, cell_at, is_present}
+use Rattle.page_map.specs.State.{State, IsConsistent, levels, space_at, cell_at, is_present}
 use Rattle.page_map.specs.Mapping.{after_op}
-use Rattle.page_map.specs.Effect.{is_given_up, state_after}
+use Rattle.page_map.specs.Effect.{state_after}
 use Rattle.page_map.proofs.Steps.{Passed, not_none}
 use Rattle.page_map.proofs.Unmapped.{held_of}
-use Rattle.page_map.proofs.Cells.{changed, cells_keep, old_fits, Fits, KeepsTables}
-use Rattle.page_map.proofs.Growth.{is_wanted, stays, whence, fewer_left}
+use Rattle.page_map.proofs.Cells.{cells_keep, old_fits, Fits, KeepsTables}
+use Rattle.page_map.proofs.Growth.{stays, whence, fewer_left}
 use Rattle.page_map.proofs.Fits.{in_changed}
 use Rattle.page_map.proofs.Mappings.{nothing_taken}
 

@@ -1,7 +1,7 @@
 -- A reply tells whether the call was refused.
-use Rattle.std.proofs.Common.{◌≡◌, ℕ, ◌+◌, ◌*◌, Bool, true, false, cond, List, [], ◌∷◌, length, refl, sym, ap, subst, ◌∙◌}
-use Rattle.std.specs.Prelude.{Option, Some, None, is_some, nat_lt}
-use Rattle.std.specs.Option.{option_map, option_or, option_and_then}
+use Rattle.std.proofs.Common.{◌≡◌, ℕ, ◌*◌, Bool, true, false, cond, List, [], ◌∷◌, length, refl, sym, ap, ◌∙◌}
+use Rattle.std.specs.Prelude.{Option, Some, None, is_some}
+use Rattle.std.specs.Option.{option_map, option_and_then}
 use Rattle.std.specs.List.{AllByRecursion}
 use Rattle.corten_base.specs.declared.calls.Call.{Call}
 use Rattle.corten_base.specs.declared.calls.Call.TheVariants as call
@@ -13,10 +13,10 @@ use Rattle.corten_base.specs.declared.calls.Why.TheVariants as why
 use Rattle.page_map.specs.declared.cell.Cell.{Cell}
 use Rattle.page_map.specs.State.{State, AddressSpace, is_present}
 use Rattle.page_map.specs.Cell.{is_past_end}
-use Rattle.page_map.specs.Access.{Access, outside_user_pages, allows, refused_at, refused_access}
-use Rattle.page_map.specs.Effect.{answer, access_of, space_of, cells_of}
+use Rattle.page_map.specs.Access.{Access, allows, refused_at, refused_access}
+use Rattle.page_map.specs.Effect.{answer, space_of}
 use Rattle.page_map.specs.Memory.{is_refusal}
-use Rattle.page_map.specs.Step.{step, refusal, refusals, first_refusal, refused_unless, reply_why, arguments, no_space, no_spaces, no_place, pages, no_tables, no_frames, no_swap}
+use Rattle.page_map.specs.Step.{step, refusal, refusals, first_refusal, refused_unless, reply_why, arguments, no_spaces, no_place, pages}
 use Rattle.page_map.proofs.Steps.{not_none, refused, accepted}
 use Rattle.page_map.proofs.Owners.{same_some}
 use Rattle.page_map.proofs.Least.{answered}

@@ -5,7 +5,6 @@ use Rattle.std.specs.FinMap.{gets, entries-insert}
 use Rattle.std.specs.FinMap as fin
 use Rattle.std.specs.FinSet as set
 use Rattle.std.specs.FinSet.{members}
-use Rattle.corten_base.specs.declared.numbers.Limits.{Limits}
 use Rattle.corten_base.specs.declared.numbers.Accounts.{Accounts}
 use Rattle.corten_base.specs.declared.calls.Call.{Call}
 use Rattle.corten_base.specs.declared.calls.Call.TheVariants as call
@@ -14,7 +13,7 @@ use Rattle.corten_base.specs.declared.calls.Backing.TheVariants as backing
 use Rattle.corten_base.specs.declared.calls.Reply.TheVariants as reply
 use Rattle.corten_base.specs.declared.calls.Reply.{Reply}
 use Rattle.corten_base.specs.declared.calls.Entry.{Entry}
-use Rattle.page_map.specs.History.{IsHistory, after, entry_step}
+use Rattle.page_map.specs.History.{IsHistory, after}
 use Rattle.page_map.specs.Worked.{worked_limits, rw, said, first_run, no_calls}
 use Rattle.page_map.proofs.Histories.{legal_entry}
 use Rattle.page_map.specs.Change.{earliest, change}

@@ -1,7 +1,7 @@
 -- Making and removing spaces keeps the facts of a state.
-use Rattle.std.proofs.Common.{◌≡◌, ℕ, ◌+◌, ◌*◌, ◌/◌, ◌<◌, ◌≤◌, Bool, true, false, cond, not, ◌&&◌, ◌||◌, List, [], ◌∷◌, ◌++◌, length, refl, sym, ap, subst, ◌∙◌, arith, ◌⊎◌, inl, inr}
+use Rattle.std.proofs.Common.{◌≡◌, ℕ, ◌+◌, ◌<◌, ◌≤◌, Bool, true, false, cond, not, List, [], ◌∷◌, refl, sym, ap, subst, ◌∙◌, arith, inl, inr}
 use mathlib.Core.Bool.{true≢false}
-use Rattle.std.specs.Prelude.{Option, Some, None, is_some, nat_eq, nat_lt}
+use Rattle.std.specs.Prelude.{Option, Some, None, is_some, nat_eq}
 use Rattle.std.specs.Option.{unwrap_or, option_map_or}
 use Rattle.std.specs.List.{list_any, flat_map, AllByRecursion}
 use Rattle.std.specs.Ordering.{nat_cmp, is_eq, eq_by_cmp}
@@ -9,24 +9,22 @@ use Rattle.std.specs.Cmp.{tied_itself, nat_cmp_total, unsigned_tied, nat_eq_equi
 use Rattle.std.specs.FinMap as fin
 use Rattle.std.specs.FinMap.{get-empty, get-remove, contains_key-keys}
 use Rattle.std.specs.FinSet as set
-use Rattle.std.proofs.lemmas.Bool.{eqb-true, or_left, or_right, or_cases, eq-eqb, not-true, false_from_ne_true}
+use Rattle.std.proofs.lemmas.Bool.{eqb-true, or_left, or_right, or_cases}
 use Rattle.corten_base.specs.declared.calls.Call.TheVariants as call
 use Rattle.table_place.specs.declared.Place.{Place}
-use Rattle.table_place.specs.Range.{within}
 use Rattle.table_place.specs.Place.{place_cmp, root, place_of, parent, is_place, is_user_page, above}
 use Rattle.table_place.proofs.Tables.{to_range}
 use Rattle.page_map.specs.declared.cell.Cell.{Cell}
-use Rattle.page_map.specs.Cell.{frame_of, slot_of, contents}
+use Rattle.page_map.specs.Cell.{frame_of, slot_of}
 use Rattle.page_map.specs.Tables.{Tables, changed_tables, need}
 use Rattle.page_map.specs.State.{State, AddressSpace, IsConsistent, SharersAgree, levels, linked, space_at, cell_at, is_present}
 use Rattle.page_map.specs.Spaces.{least_absent}
-use Rattle.page_map.specs.Effect.{is_given_up, wanted_tables, state_after}
-use Rattle.page_map.specs.Step.{no_spaces}
+use Rattle.page_map.specs.Effect.{is_given_up, state_after}
 use Rattle.page_map.proofs.Places.{place_total}
 use Rattle.page_map.proofs.Steps.{Passed, not_none}
 use Rattle.page_map.proofs.Unmapped.{held_of}
 use Rattle.page_map.proofs.Least.{least_passes}
-use Rattle.page_map.proofs.Above.{any_append, any_flat}
+use Rattle.page_map.proofs.Above.{any_flat}
 use Rattle.page_map.proofs.Cells.{changed, each_cell, present_changed}
 use Rattle.page_map.proofs.Growth.{is_wanted, AreWanted, none_wanted, both_wanted, above_wanted, root_wanted, key_wanted, stays, comes, whence, grown_len, fewer_left}
 use Rattle.page_map.proofs.Keeps.{room}

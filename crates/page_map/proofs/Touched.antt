@@ -1,24 +1,18 @@
 -- Accesses and moves to and from swap keep the facts of a state.
-use Rattle.std.proofs.Common.{◌≡◌, ℕ, ◌+◌, ◌/◌, ◌<◌, ◌≤◌, Bool, true, false, cond, List, [], length, refl, sym, ap, ◌∙◌, arith}
-use Rattle.std.specs.Prelude.{Option, Some, None, is_some}
-use Rattle.std.specs.FinMap as fin
+use Rattle.std.proofs.Common.{◌≡◌, ℕ, ◌+◌, ◌≤◌, Bool, true, false, List, [], length, sym}
 use Rattle.std.specs.FinSet as set
 use Rattle.table_place.specs.declared.Place.{Place}
-use Rattle.table_place.specs.Range.{within}
 use Rattle.table_place.specs.Place.{place_cmp, place_of}
-use Rattle.page_map.specs.declared.cell.Cell.{Cell}
-use Rattle.page_map.specs.Cell.{frame_of, slot_of}
-use Rattle.page_map.specs.Change.{keys_in}
-use Rattle.page_map.specs.Takes.{Grant, grant, granted}
+use Rattle.page_map.specs.Takes.{Grant, grant}
 use Rattle.page_map.specs.Tables.{changed_tables, need}
-use Rattle.page_map.specs.State.{State, AddressSpace, IsConsistent, levels, linked, space_at, cell_at, is_present, owners, unused, unused_frames, unused_slots, frame_owners, slot_owners}
+use Rattle.page_map.specs.State.{State, AddressSpace, IsConsistent, levels, linked, space_at, is_present, unused_frames, unused_slots, frame_owners, slot_owners}
 use Rattle.page_map.specs.Access.{Access, first_page, page_count, wants_frame, wanting_frames, after_access}
-use Rattle.page_map.specs.Swap.{goes_out, comes_in, out_to, in_to, moved_to}
+use Rattle.page_map.specs.Swap.{out_to, in_to, moved_to}
 use Rattle.page_map.proofs.Steps.{not_none}
 use Rattle.page_map.proofs.Grants.{granted_unused, granted_apart, granted_each, key_chosen}
-use Rattle.page_map.proofs.Cells.{changed, AreTaken, cells_keep, old_fits, Fits}
+use Rattle.page_map.proofs.Cells.{changed, AreTaken, cells_keep, old_fits}
 use Rattle.page_map.proofs.Growth.{none_wanted, stays, grown}
-use Rattle.page_map.proofs.Fits.{AllFit, AccessTakes, access_fits, outs_fit, ins_fit}
+use Rattle.page_map.proofs.Fits.{AllFit, access_fits, outs_fit, ins_fit}
 
 -- the numbers that pages get
 module _ (st : State) (pages : List ℕ) where

@@ -1,11 +1,11 @@
 -- After an `unmap`, a load of a page of its range is refused.
-use Rattle.std.proofs.Common.{◌≡◌, ℕ, ◌+◌, ◌-◌, ◌*◌, ◌/◌, ◌^◌, Bool, true, false, cond, not, refl, ap, ◌∙◌, arith}
-use Rattle.std.specs.Prelude.{is_some, Option, Some, None, nat_lt, nat_le}
+use Rattle.std.proofs.Common.{◌≡◌, ℕ, ◌+◌, ◌-◌, ◌*◌, ◌/◌, Bool, true, false, cond, not, refl, ap, ◌∙◌, arith}
+use Rattle.std.specs.Prelude.{is_some, Option, Some, None}
 use Rattle.std.specs.Option.{unwrap_or, option_map}
 use Rattle.std.specs.Cmp.{nat_cmp_total, unsigned_tied, nat_eq_equiv}
 use Rattle.std.specs.FinMap.{FinMap, get, insert, empty, get-insert}
 use Rattle.std.specs.Ordering.{nat_cmp}
-use Rattle.std.proofs.lemmas.Bool.{leb-true, ltb-true, lt-ltb, le-leb, and_parts, and_from}
+use Rattle.std.proofs.lemmas.Bool.{and_parts}
 use Rattle.corten_base.specs.declared.calls.Call.TheVariants as call
 use Rattle.corten_base.specs.declared.calls.Reply.{Reply}
 use Rattle.corten_base.specs.declared.calls.Reply.TheVariants as reply
@@ -18,7 +18,7 @@ use Rattle.page_map.specs.Access.{refused_at}
 use Rattle.page_map.specs.Mapping.{after_op}
 use Rattle.page_map.specs.Step.{refusal, refused_unless}
 use Rattle.page_map.specs.Effect.{state_after}
-use Rattle.page_map.proofs.Range.{get-change, inside}
+use Rattle.page_map.proofs.Range.{get-change}
 use Rattle.page_map.proofs.Steps.{passed, by_pages, not_none}
 
 get_inserted : {X : Type 0} (m : FinMap nat_cmp X) (k : ℕ) (x : X) → get (insert m k x) k ≡ Some x

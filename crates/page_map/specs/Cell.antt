@@ -3,7 +3,7 @@
 --     status_of      what a caller is told of a page
 --     contents      the 4,096 bytes that an access finds at the page
 --     written      a page's bytes after bytes were stored
-use Rattle.std.specs.Prelude.{ℕ, ◌+◌, ◌-◌, ◌*◌, ◌/◌, ◌%◌, Bool, false, List, [], ◌++◌, length, take, drop, replicate, nat_eq, nat_le, slice_get, Option, Some, None}
+use Rattle.std.specs.Prelude.{ℕ, ◌+◌, ◌-◌, ◌*◌, Bool, false, List, [], ◌++◌, length, take, drop, replicate, nat_le, slice_get, Option, Some, None}
 use Rattle.std.specs.Option.{unwrap_or}
 use Rattle.corten_base.specs.declared.permissions.Perm.{Perm}
 use Rattle.corten_base.specs.declared.numbers.Status.{Status}

@@ -4,7 +4,7 @@
 --     refused_op, after_op      why an operation is refused;  the cells after it
 --     undone, after_ops      the first refused operation of a list;  the cells after all of them
 --     gap      the least place for a mapping in a thread's arena
-use Rattle.std.specs.Prelude.{ℕ, ◌+◌, ◌-◌, ◌*◌, ◌/◌, ◌%◌, ◌^◌, Bool, true, false, cond, ◌&&◌, List, [], ◌∷◌, length, nat_eq, nat_lt, nat_le, Option, Some, None, is_some, is_none}
+use Rattle.std.specs.Prelude.{ℕ, ◌+◌, ◌-◌, ◌*◌, ◌/◌, ◌^◌, Bool, true, false, cond, ◌&&◌, List, [], ◌∷◌, length, nat_eq, nat_lt, nat_le, Option, Some, None, is_some, is_none}
 use Rattle.std.specs.Option.{option_map, option_or}
 use Rattle.std.specs.FinMap.{get}
 use Rattle.corten_base.specs.declared.permissions.Perm.{Perm}

@@ -2,7 +2,7 @@
 --     worked_limits      2 frames, 8 page tables and 1 swap slot
 --     first_run      a page is mapped, two bytes are stored, and three are loaded
 --     no_calls      nothing is called
-use Rattle.std.specs.Prelude.{ℕ, true, false, List, [], ◌∷◌}
+use Rattle.std.specs.Prelude.{true, false, List, [], ◌∷◌}
 use Rattle.corten_base.specs.declared.numbers.Limits.{Limits}
 use Rattle.corten_base.specs.declared.permissions.Perm.{Perm}
 use Rattle.corten_base.specs.declared.calls.Backing.TheVariants as backing

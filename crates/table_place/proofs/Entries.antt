@@ -1,9 +1,8 @@
 -- Entries of tables, and the pages of their spans.
-use Rattle.std.proofs.Common.{◌≡◌, ℕ, ◌+◌, ◌-◌, ◌*◌, ◌/◌, ◌%◌, ◌^◌, ◌<◌, ◌≤◌, Bool, true, false, cond, ◌&&◌, ◌||◌, refl, sym, ap, ◌∙◌, arith, ◌⊎◌, inl, inr}
+use Rattle.std.proofs.Common.{◌≡◌, ℕ, ◌+◌, ◌-◌, ◌*◌, ◌/◌, ◌%◌, ◌^◌, ◌<◌, ◌≤◌, true, false, cond, ◌&&◌, sym, ap, ◌∙◌, arith, ◌⊎◌, inl, inr}
 use Rattle.std.specs.Prelude.{nat_eq, nat_lt}
 use Rattle.std.proofs.Math.Nat.{div-eq_of_lt-le, le-div_iff_mul-le, mul-div_cancel, add-mul, one-mul}
-use Rattle.std.specs.Cmp.{nat_eq_equiv}
-use Rattle.std.proofs.lemmas.Bool.{and_parts, and_from, or_parts, or_cases, or_right, eqb-true, eq-eqb, ne_eqb, lt-ltb, ltb-true, cases_lt, false≢true, cond-false}
+use Rattle.std.proofs.lemmas.Bool.{and_parts, and_from, or_cases, or_right, eqb-true, eq-eqb, ne_eqb, lt-ltb, ltb-true, cases_lt, false≢true, cond-false}
 use Rattle.table_place.specs.declared.Place.{Place}
 use Rattle.table_place.specs.Range.{within}
 use Rattle.table_place.specs.Place.{place_of, is_place, is_directory, entry_place, root, index_at, span_first, span_count, has_page, is_above}

@@ -1,9 +1,9 @@
 -- The lines of a text: joined lists, and a text parted in one way alone.
-use Rattle.std.proofs.Common.{◌≡◌, ◌≢◌, ℕ, List, [], ◌∷◌, ◌++◌, refl, sym, ap, ◌∙◌}
+use Rattle.std.proofs.Common.{◌≡◌, ◌≢◌, ℕ, ◌≤◌, List, [], ◌∷◌, ◌++◌, length, refl, sym, ap, ◌∙◌, arith}
 use Rattle.std.specs.List.{All}
 use Rattle.std.proofs.lemmas.Grind.{flat_map-append}
 use Rattle.std.proofs.lemmas.List.{append_assoc, append-nil}
-use Rattle.std.proofs.lemmas.List.Elements.{All-head, All-tail}
+use Rattle.std.proofs.lemmas.List.Elements.{All-nil, All-head, All-tail}
 use Rattle.text_words.specs.Layout.{HasNo, IsLine, ended, text}
 
 pub text-append : (xs ys : List (List ℕ)) → text (xs ++ ys) ≡ text xs ++ text ys
@@ -53,3 +53,44 @@ one_list_of_lines (k ∷ xs) x (l ∷ ys) y xs_are ys_are x_is y_is same =
     let cut = one_cut 10 k (text xs ++ x) l (text ys ++ y) (All-head IsLine k xs xs_are) (All-head IsLine l ys ys_are) (sym (ended_first k x xs) ∙ same ∙ ended_first l y ys) in
     let rest = one_list_of_lines xs x ys y (All-tail IsLine k xs xs_are) (All-tail IsLine l ys ys_are) x_is y_is cut.back in
     record { lines = ap (λ c. c ∷ xs) cut.front ∙ ap (λ cs. l ∷ cs) rest.lines; rest = rest.rest }
+
+-- the lines of a text that begins with others
+pub record GoesOn (xs : List (List ℕ)) (x : List ℕ) (ys : List (List ℕ)) (y : List ℕ) : Type 0 where
+  pub more : List (List ℕ)
+  pub lines : ys ≡ xs ++ more
+  pub rest : x ≡ text more ++ y
+  pub are_lines : All IsLine more
+
+pub lines_go_on : (xs : List (List ℕ)) (x : List ℕ) (ys : List (List ℕ)) (y : List ℕ) → All IsLine xs → All IsLine ys → length xs ≤ length ys → text xs ++ x ≡ text ys ++ y → GoesOn xs x ys y
+lines_go_on [] x ys y xs_are ys_are fewer same = record { more = ys; lines = refl; rest = same; are_lines = ys_are }
+lines_go_on (k ∷ xs) x [] y xs_are ys_are fewer same = absurd (omega arith)
+lines_go_on (k ∷ xs) x (l ∷ ys) y xs_are ys_are fewer same =
+    let cut = one_cut 10 k (text xs ++ x) l (text ys ++ y) (All-head IsLine k xs xs_are) (All-head IsLine l ys ys_are) (sym (ended_first k x xs) ∙ same ∙ ended_first l y ys) in
+    let rest = lines_go_on xs x ys y (All-tail IsLine k xs xs_are) (All-tail IsLine l ys ys_are) (omega arith) cut.back in
+    record { more = rest.more; lines = ap (λ c. c ∷ ys) (sym cut.front) ∙ ap (λ cs. k ∷ cs) rest.lines; rest = rest.rest; are_lines = rest.are_lines }
+
+-- a whole text has no fewer lines
+pub fewer_lines : (xs : List (List ℕ)) (x : List ℕ) (ys : List (List ℕ)) → All IsLine xs → All IsLine ys → text xs ++ x ≡ text ys → length xs ≤ length ys
+fewer_lines [] x ys xs_are ys_are same = omega arith
+fewer_lines (k ∷ xs) x [] xs_are ys_are same = absurd (no_cut 10 k (text xs ++ x) [] (All-nil (λ c. c ≢ 10)) (sym (ended_first k x xs) ∙ same))
+fewer_lines (k ∷ xs) x (l ∷ ys) xs_are ys_are same =
+    let whole : text (l ∷ ys) ≡ l ++ 10 ∷ (text ys ++ []) = sym (append-nil (text (l ∷ ys))) ∙ ended_first l [] ys in
+    let cut = one_cut 10 k (text xs ++ x) l (text ys ++ []) (All-head IsLine k xs xs_are) (All-head IsLine l ys ys_are) (sym (ended_first k x xs) ∙ same ∙ whole) in
+    let rest = fewer_lines xs x ys (All-tail IsLine k xs xs_are) (All-tail IsLine l ys ys_are) (cut.back ∙ append-nil (text ys)) in
+    omega arith
+
+-- the first line of a text
+pub record FirstLine (line more : List ℕ) (lines : List (List ℕ)) (rest : List ℕ) : Type 0 where
+  pub others : List (List ℕ)
+  pub are : lines ≡ line ∷ others
+
+pub first_line : (line more : List ℕ) (lines : List (List ℕ)) (rest : List ℕ) → IsLine line → All IsLine lines → lines ≢ [] → ended line ++ more ≡ text lines ++ rest → FirstLine line more lines rest
+first_line line more [] rest is_line are some same = absurd (some refl)
+first_line line more (l ∷ lines) rest is_line are some same =
+    let cut = one_cut 10 line more l (text lines ++ rest) is_line (All-head IsLine l lines are) (sym (append_assoc line (10 ∷ []) more) ∙ same ∙ ended_first l rest lines) in
+    record { others = lines; are = ap (λ c. c ∷ lines) (sym cut.front) }
+
+-- bytes without a newline are no lines
+pub no_lines : (rest : List ℕ) (lines : List (List ℕ)) (behind : List ℕ) → IsLine rest → rest ≡ text lines ++ behind → lines ≡ []
+no_lines rest [] behind is_line same = refl
+no_lines rest (l ∷ lines) behind is_line same = absurd (no_cut 10 l (text lines ++ behind) rest is_line (sym (same ∙ ended_first l behind lines)))

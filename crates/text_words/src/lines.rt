@@ -1,5 +1,5 @@
 //! The lines of a text.
-ghost use Rattle.std.specs.Prelude.{◌≡◌, ◌+◌, ◌++◌, ◌↔◌, [], IsTrue, IfSome, IfNone};
+ghost use Rattle.std.specs.Prelude.{◌≡◌, ◌+◌, ◌^◌, ◌<◌, ◌++◌, ◌↔◌, [], IsTrue, IfSome, IfNone};
 ghost use Rattle.text_words.specs.Layout.{IsLine, ended};
 
 use crate::cut::cut_at;
@@ -51,7 +51,8 @@ impl<'a> Lines<'a> {
 
     /// How many lines were taken: the number of the last one, where lines count from 1.
     pub fn taken(&self) -> u64
-        ensures { result ≡ self.now.taken }
+        ensures value { result ≡ self.now.taken }
+        ensures small { result < 2 ^ 63 }
     {
         self.taken
     }

@@ -1,0 +1,5 @@
+pub mod Parts
+pub mod Answering
+pub mod Texts
+pub mod Told
+pub mod Single

@@ -1,0 +1,11 @@
+-- The one word is `solo`.
+use Rattle.std.proofs.Common.{◌≡◌, ◌∙◌, List, [], ◌∷◌, ap, sym, codes}
+use Rattle.std.specs.String.{string_bytes}
+use lib.Pointwise.{bytes_decides}
+use Rattle.corten_run.proofs.Single.{map_single}
+use Rattle.corten_run.proofs.command.read_command.Goals as goal
+
+pub returns-in-len1-clause-found : goal.returns-in-len1-clause-found
+returns-in-len1-clause-found c =
+    map_single string_bytes c.args.words.now c.word-item.result c.in-len1.len_at_least c.in-len1.len_below c.word-item.is
+    ∙ ap (λ text. text ∷ []) (sym c.as_str.ensures.value ∙ (bytes_decides _ _).0 (sym c.eq.ensures ∙ c.if-eq.true))

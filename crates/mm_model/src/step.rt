@@ -1,0 +1,95 @@
+//! One step of the plain machine.
+ghost use Rattle.std.specs.Prelude.{◌≡◌, ◌+◌, ◌<◌, ◌≤◌, ◌↔◌, IfOk, OnErr, Err};
+ghost use Rattle.page_map.specs.State.{linked};
+ghost use Rattle.page_map.specs.Step.{step};
+ghost use Rattle.mm_model.specs.Served.{IsServed};
+
+use crate::mapping::Mapping;
+use crate::plain::Plain;
+use corten_base::{Call, MapPlace, Reply};
+use std::alloc::{AllocError, Global};
+use thiserror::Error;
+
+/// Why a call gets no reply.
+#[derive(Debug, Drop, PartialEq, Eq, Error)]
+pub enum StepFault {
+    /// More page tables are linked and in limbo than there are.
+    #[error("more page tables are linked and in limbo than there are")]
+    NotLegal,
+    /// Memory is wanted.
+    #[error("out of memory")]
+    NoMemory,
+}
+
+impl From<AllocError> for StepFault {
+    ghost use Rattle.std.specs.Prelude.{◌≡◌};
+    ghost use Rattle.mm_model.specs.declared.step.StepFault.TheVariants.{NoMemory};
+
+    ghost from_gives = { λ _ fault. fault ≡ NoMemory };
+
+    fn from(_wanting: AllocError) -> StepFault {
+        StepFault::NoMemory
+    }
+}
+
+impl Plain {
+    /// Makes a call, where no more page tables are linked and in limbo than there are.
+    fn answer(
+        &mut self,
+        alloc: Global,
+        thread: u8,
+        call: &Call,
+        limbo: u32,
+    ) -> Result<Reply, AllocError>
+        requires thread { thread < 8 }
+        requires served { IsServed call.now }
+        requires legal { linked self.old + limbo ≤ self.old.limits.tables }
+        ensures ok { IfOk result (λ reply. (reply, self.new) ≡ step self.old thread call.now limbo) }
+        ensures err { OnErr result (self.new ≡ self.old) }
+    {
+        match call {
+            Call::Map {
+                space,
+                place: MapPlace::Any,
+                len,
+                perm,
+                backing,
+            } => {
+                let mapping = Mapping {
+                    space: *space,
+                    len: *len,
+                    perm: *perm,
+                    backing: *backing,
+                };
+                self.map_any(alloc, thread, &mapping, limbo)
+            }
+            Call::Load { space, at, len } => self.load(alloc, *space, *at, *len),
+            Call::Store { space, at, bytes } => self.store(alloc, *space, *at, bytes),
+            _ => unreachable!(),
+        }
+    }
+
+    /// Makes a call for a thread, where so many page tables are in limbo, and gives its reply.
+    ///
+    /// The calls are `map any`, `load` and `store`; an access is of 1 to 4,096 bytes, and a thread's number
+    /// is below 8.
+    pub fn step(
+        &mut self,
+        alloc: Global,
+        thread: u8,
+        call: &Call,
+        limbo: u32,
+    ) -> Result<Reply, StepFault>
+        requires thread { thread < 8 }
+        requires served { IsServed call.now }
+        ensures ok { IfOk result (λ reply. (reply, self.new) ≡ step self.old thread call.now limbo) }
+        ensures not_legal { (result ≡ Err StepFault.NotLegal) ↔ (self.old.limits.tables < linked self.old + limbo) }
+        ensures err { OnErr result (self.new ≡ self.old) }
+        ensures fits { linked self.new ≤ self.new.limits.tables }
+    {
+        if self.tables.len() as u64 + u64::from(limbo) > u64::from(self.limits.tables) {
+            return Err(StepFault::NotLegal);
+        }
+        Ok(self.answer(alloc, thread, call, limbo)?)
+    }
+}

@@ -1,0 +1,6 @@
+pub mod Beginnings
+pub mod CallForms
+pub mod OneCall
+pub mod OneScript
+pub mod Places
+pub mod ThreadLines

@@ -1,0 +1,3 @@
+pub mod CallLine
+pub mod Reading
+pub mod ScriptText

@@ -1,0 +1,94 @@
+-- Which bytes are the text of a script, and which line of other bytes is the first outside the grammar.
+--     kept      the lines that are not skipped
+--     script_lines      the lines of a script
+--     IsScript      the bounds of a script
+--     IsScriptText      bytes that are the text of a script
+--     Begins      lines with which a script begins
+--     Fault, IsFirstFault      why a line is outside the grammar, and the first such line
+use Rattle.std.specs.Prelude.{◌≡◌, ◌≢◌, ℕ, ◌+◌, ◌==◌, Bool, true, not, ⊤, List, [], ◌∷◌, ◌++◌, length, map, filter, codes, All}
+use Rattle.std.specs.List.{flat_map}
+use Rattle.corten_base.specs.declared.calls.Call.{Call}
+use Rattle.corten_base.specs.declared.numbers.Limits.{Limits}
+use Rattle.text_words.specs.Spelling.{number}
+use Rattle.text_words.specs.Layout.{IsLine, joined, ended, text}
+use Rattle.mm_script.specs.CallLine.{call_line, IsCall, IsWithin}
+use Rattle.mm_script.specs.declared.fault.ScriptFault.{ScriptFault}
+use Rattle.mm_script.specs.declared.fault.ScriptFault.TheVariants as fault
+use Rattle.mm_script.specs.declared.script.Script.{Script}
+
+-- a line that is empty or begins with `#`
+abbrev pub is_skipped : List ℕ → Bool
+is_skipped [] = true
+is_skipped (b ∷ bytes) = b == 35
+
+abbrev pub kept : List (List ℕ) → List (List ℕ)
+kept lines = filter (λ line. not (is_skipped line)) lines
+
+abbrev pub limit_words : List ℕ → ℕ → List (List ℕ)
+limit_words name n = name ∷ number n ∷ []
+
+abbrev pub limit_lines : Limits → List (List ℕ)
+limit_lines limits =
+    joined (limit_words (codes "frames") limits.frames)
+    ∷ joined (limit_words (codes "tables") limits.tables)
+    ∷ joined (limit_words (codes "swap") limits.swap)
+    ∷ []
+
+abbrev pub thread_lines : List Call → List (List ℕ)
+thread_lines calls = codes "thread" ∷ map call_line calls
+
+abbrev pub script_lines : Script → List (List ℕ)
+script_lines script = limit_lines script.limits ++ flat_map thread_lines script.threads
+
+pub record AreLimits (limits : Limits) : Type 0 where
+  pub frames : IsWithin 1 4096 limits.frames
+  pub tables : IsWithin 1 1023 limits.tables
+  pub swap : IsWithin 0 4096 limits.swap
+
+-- one thread alone so far
+pub record AreThreads (threads : List (List Call)) : Type 0 where
+  pub count : length threads ≡ 1
+  pub calls : All (All IsCall) threads
+
+pub record IsScript (script : Script) : Type 0 where
+  pub limits : AreLimits script.limits
+  pub threads : AreThreads script.threads
+
+-- The bytes are lines, each ended by a newline, and those that are kept are the lines of the script.
+pub record IsScriptText (bytes : List ℕ) (script : Script) : Type 0 where
+  pub lines : List (List ℕ)
+  pub are_lines : All IsLine lines
+  pub whole : bytes ≡ text lines
+  pub are_kept : kept lines ≡ script_lines script
+  pub is_script : IsScript script
+
+-- some script has these lines, and then more
+pub record Begins (lines : List (List ℕ)) : Type 0 where
+  pub script : Script
+  pub more : List (List ℕ)
+  pub is_script : IsScript script
+  pub goes_on : lines ++ more ≡ script_lines script
+
+-- Why no script's text has these lines, and behind them these bytes.
+pub data Fault (lines : List (List ℕ)) (rest : List ℕ) : Type 0 where
+  -- no script begins with these lines and the next one
+  outside : (line more : List ℕ) → IsLine line → rest ≡ ended line ++ more → ¬ (Begins (lines ++ kept (line ∷ []))) → Fault lines rest
+  -- the next line has no newline
+  unfinished : IsLine rest → rest ≢ [] → Fault lines rest
+  -- the text ends before a line that must come
+  missing : rest ≡ [] → ((script : Script) → IsScript script → lines ≢ script_lines script) → Fault lines rest
+
+-- Counted from 1, n is the number of the first line that is outside the grammar: some script begins with the lines before it.
+pub record IsFirstFault (bytes : List ℕ) (n : ℕ) : Type 0 where
+  pub before : List (List ℕ)
+  pub rest : List ℕ
+  pub are_lines : All IsLine before
+  pub parted : bytes ≡ text before ++ rest
+  pub counted : n ≡ length before + 1
+  pub begins : Begins (kept before)
+  pub fault : Fault (kept before) rest
+
+-- a fact of the line that a fault names
+abbrev pub IfBad : ScriptFault → (ℕ → Type 0) → Type 0
+IfBad (fault.Bad n) P = P n
+IfBad fault.NoMemory P = ⊤

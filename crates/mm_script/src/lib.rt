@@ -1,0 +1,27 @@
+//! Scripts: the calls of threads, read from a text, and call lines read and printed.
+//!
+//! A script is lines, each ended by a newline. A line that is empty or begins with `#` is skipped, and counts as a line.
+//! The others are `frames N`, `tables N` and `swap N`, then `thread`, and then a line for each call.
+#![tactic(auto)]
+
+mod call_words;
+mod calls;
+mod fault;
+mod header;
+mod kept;
+mod laws;
+mod reading;
+mod script;
+mod threads;
+
+pub use calls::{next_call, print_call, push_call, read_call};
+pub use fault::ScriptFault;
+pub use laws::{
+    a_line_has_one_call, a_text_has_one_first_fault, a_text_has_one_script,
+    words_begin_with_one_call,
+};
+pub use reading::read_script;
+pub use script::Script;
+
+#[cfg(test)]
+mod tests;
