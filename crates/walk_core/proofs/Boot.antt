@@ -51,7 +51,7 @@ boot_other levels rows k a b d e =
 no_lock : (rows k : ℕ) → k % 515 ≢ 512 → is_free_lock rows k ≡ false
 no_lock rows k ne = ap (λ t. t && leb 2 (k / 515) && ltb (k / 515) rows) (ne_eqb (k % 515) 512 ne)
 
-boot_zero : (levels rows k : ℕ) → k ≢ 0 → k ≢ 513 → k ≢ 1028 → k ≢ 1029 → k % 515 ≢ 512 → boot_word levels rows k ≡ 0
+pub boot_zero : (levels rows k : ℕ) → k ≢ 0 → k ≢ 513 → k ≢ 1028 → k ≢ 1029 → k % 515 ≢ 512 → boot_word levels rows k ≡ 0
 boot_zero levels rows k a b d e ne = boot_other levels rows k a b d e ∙ ap (λ t. cond t stale 0) (no_lock rows k ne)
 
 boot_free_lock : (levels rows r : ℕ) → 2 ≤ r → r < rows → boot_word levels rows (lock_at r) ≡ stale
@@ -64,7 +64,7 @@ module _ (levels rows count : ℕ) (may : MayBoot levels rows count) where
   abbrev c : Core
   c = boot levels rows count
 
-  word_is : (k : ℕ) → k < word_count rows count → word c k ≡ boot_word levels rows k
+  pub word_is : (k : ℕ) → k < word_count rows count → word c k ≡ boot_word levels rows k
   unfolding boot
   word_is k h = get_or-map-range_with_len (boot_word levels rows) 0 (word_count rows count) k k 0 h (omega arith)
 
@@ -86,7 +86,7 @@ module _ (levels rows count : ℕ) (may : MayBoot levels rows count) where
   out_free r h k = out_is r ∙ times-range_in r 2 (rows - 2) h (omega arith)
 
   -- every entry but the first is empty
-  entry_zero : (r i : ℕ) → r < rows → i < 512 → entry_at r i ≢ 0 → word c (entry_at r i) ≡ 0
+  pub entry_zero : (r i : ℕ) → r < rows → i < 512 → entry_at r i ≢ 0 → word c (entry_at r i) ≡ 0
   entry_zero r i h k ne = word_is (entry_at r i) (omega arith) ∙ boot_zero levels rows (entry_at r i) ne (λ e. omega arith) (λ e. omega arith) (λ e. omega arith) (λ e. omega arith)
 
   first_entry : word c 0 ≡ link_word 1 1
@@ -121,7 +121,7 @@ module _ (levels rows count : ℕ) (may : MayBoot levels rows count) where
   links_other : (q : ℕ) → q ≢ 1 → links_to c q ≡ 0
   links_other q ne = links_are q ∙ link_of_other (word c 0) q (λ e. ne (sym e ∙ root_row))
 
-  place_root : place_in c 1 ≡ root levels 0
+  pub place_root : place_in c 1 ≡ root levels 0
   place_root = ap place_shown (word_is 1028 (omega arith)) ∙ place_shown-position_word (root levels 0) (omega arith) (⊎_elim (λ (e : levels ≡ 4). omega arith) (λ (e : levels ≡ 5). omega arith) may.some_levels)
 
   place_directory : place_in c 0 ≡ directory

@@ -34,6 +34,7 @@ impl Core {
         ensures allowed { IsTrue result ↔ IsAllowed self.old event.now }
         ensures done { OnTrue result (self.new ≡ events.after self.old event.now) }
         ensures refused { OnFalse result (self.new ≡ self.old) }
+        ensures sizes { (self.new.rows ≡ self.old.rows) × (self.new.count ≡ self.old.count) }
     {
         if !self.allows(event) {
             return false;

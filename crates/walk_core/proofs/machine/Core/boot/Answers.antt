@@ -44,4 +44,7 @@ pub returns : goal.returns
 unfolding boot
 returns c =
     let a : Inside = record { levels = 4; rows = c.args.rows; words = c.in_ok-boot_words.field-0; passes = c.in_ok-boot_passes.field-0; free = c.in_ok-boot_free.field-0; limbo = c.in_ok-with_capacity.field-0 } in
-    booted a c.args.rows c.args.passes refl refl c.in_ok-boot_passes.ensures.idle c.in_ok-boot_words.ensures c.in_ok-boot_free.ensures.items c.in_ok-with_capacity.ensures.items
+    record {
+      start = booted a c.args.rows c.args.passes refl refl c.in_ok-boot_passes.ensures.idle c.in_ok-boot_words.ensures c.in_ok-boot_free.ensures.items c.in_ok-with_capacity.ensures.items;
+      sizes = (refl, count_is c.args.passes c.in_ok-boot_passes.field-0.items c.in_ok-boot_passes.ensures.idle);
+    }
