@@ -1,0 +1,17 @@
+pub mod RowLists
+pub mod Spellings
+pub mod Tree
+pub mod Listed
+pub mod Facts
+pub mod RowStates
+pub mod Frames
+pub mod Relocks
+pub mod KeepsLocks
+pub mod KeepsBook
+pub mod KeepsStands
+pub mod KeepsRows
+pub mod KeepsLinks
+pub mod Boot
+pub mod Keeps
+pub mod Stepped
+pub mod Roomy
