@@ -7,3 +7,6 @@ mod script_run;
 mod top;
 
 pub use top::corten_plain;
+
+#[cfg(test)]
+mod tests;
