@@ -15,6 +15,3 @@ mod tables;
 
 pub use plain::Plain;
 pub use step::StepFault;
-
-#[cfg(test)]
-mod tests;
