@@ -1,0 +1,6 @@
+pub mod Plan
+pub mod Rows
+pub mod Rule
+pub mod Moves
+pub mod Stack
+pub mod Calls
