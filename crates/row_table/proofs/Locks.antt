@@ -199,3 +199,16 @@ module _ {R B E : Type 0} (M : Meaning R B E) where
             (holds_less k first s.words (set s.words (lock_at r) 0) h.book v r shows know),
         λ q same. let e : r ≡ q = omega arith in ap (λ (y : ℕ). (released v y ∷ [], cs)) e,
       ))
+
+  -- the same where the place and the number are known by equations
+  pub grabs_at : (k : Layout) (first : B) (slots id : ℕ) (m : Seat R B E) (n r i a : ℕ) → i ≡ lock_at r → a ≡ n → IsOne n m → MayGrab (view m) r
+      → Allows (Holds M k first) slots id m i (λ x. either (eqb x 0) (a + 1) x) (grab_told (step slots i 0 (a + 1) none) m)
+  grabs_at k first slots id m n r i a at is one may =
+      subst (λ (j : ℕ). Allows (Holds M k first) slots id m j (λ x. either (eqb x 0) (a + 1) x) (grab_told (step slots j 0 (a + 1) none) m)) (sym at)
+      (subst (λ (b : ℕ). Allows (Holds M k first) slots id m (lock_at r) (λ x. either (eqb x 0) (b + 1) x) (grab_told (step slots (lock_at r) 0 (b + 1) none) m)) (sym is)
+      (grabs k first slots id m n r one may))
+
+  pub releases_at : (k : Layout) (first : B) (slots id : ℕ) (m : Seat R B E) (n r i : ℕ) (x : R) → i ≡ lock_at r → IsOne n m → Has (view m).core.held r → NotInHand (view m) r → Fits M (view m) r x → m.1 ≡ (r, Some (Row x)) ∷ rest m.1
+      → Allows (Holds M k first) slots id m i (λ _. 0) (λ _. release_told (step slots i 0 0 none) m 0)
+  releases_at k first slots id m n r i x at one held linked fits front =
+      subst (λ (j : ℕ). Allows (Holds M k first) slots id m j (λ _. 0) (λ _. release_told (step slots j 0 0 none) m 0)) (sym at) (releases k first slots id m n r x one held linked fits front)

@@ -79,3 +79,22 @@ pub rows_less : (rows r : ℕ) (held : List ℕ) → AreRows rows held → AreRo
 rows_less rows r held are q = let h = are q in let past = h.1 in dite (ℕ_discrete q r)
     (λ e. let n = times_without_same r q held e in (omega arith, λ p. n))
     (λ ne. let n = times_without_other r q held ne in (omega arith, λ p. let z = past p in omega arith))
+
+-- what a pass keeps of its seat and of the slots that it carries
+pub record Kept {R B E : Type 0} (n rows : ℕ) (m : Seat R B E) (items : List ℕ) : Type 0 where
+  pub one : IsOne n m
+  pub stacked : m.1 ≡ outs items
+  pub carries : SameRows items (carried rows (view m).core.held (view m).core.has_book)
+  pub held : AreRows rows (view m).core.held
+
+pub kept_by : {R B E : Type 0} (n rows : ℕ) (m : Seat R B E) (items : List ℕ) (w : PassView R B E) → m ≡ (w ∷ [], outs items) → w.number ≡ n
+    → SameRows items (carried rows w.core.held w.core.has_book) → AreRows rows w.core.held → Kept n rows m items
+kept_by {R} {B} {E} n rows m items w e number same are = subst (λ (y : Seat R B E). Kept n rows y items) (sym e) (record { one = (refl, number); stacked = refl; carries = same; held = are })
+
+-- a row that is held is carried
+pub carried_row : (rows r : ℕ) (held items : List ℕ) (has : Bool) → SameRows items (carried rows held has) → Has held r → Has items r
+carried_row rows r held items has same i = let s = same r in let a = times-append r held (cond has (rows ∷ []) []) in omega arith
+
+-- the seat with the value that was put into the slot in front
+pub put_in : {R B E : Type 0} (n : ℕ) (m0 m1 m2 : Seat R B E) (x y : ℕ × Slot R B) (cs : List (ℕ × Slot R B)) → IsOne n m0 → m1.0 ≡ m0.0 → m1.1 ≡ y ∷ cs → m2 ≡ (m1.0, x ∷ rest m1.1) → m2 ≡ (view m0 ∷ [], x ∷ cs)
+put_in n m0 m1 m2 x y cs one same front is = is ∙ (λ i. ((same ∙ one.0) i, x ∷ ap rest front i))
