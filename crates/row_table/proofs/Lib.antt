@@ -4,3 +4,5 @@ pub mod Frames
 pub mod Views
 pub mod Locks
 pub mod Told
+pub mod Start
+pub mod Spans

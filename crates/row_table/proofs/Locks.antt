@@ -40,7 +40,7 @@ use Rattle.row_table.proofs.Frames.{RowHome, moved_here, knows_shown, contents_l
 use Rattle.row_table.proofs.Views.{kept, rows_without, pass_is, knows_it, is_linked, not_in_hand, guard_grab, has_held}
 
 -- a pass that holds a row is there
-held_below : (c : Core) (p r : ℕ) → Good c → Has (pass_at c p).held r → p < c.count
+pub held_below : (c : Core) (p r : ℕ) → Good c → Has (pass_at c p).held r → p < c.count
 held_below c p r g has = ⊎_elim (λ (less : p < c.count). less)
     (λ past. let all = g.sizes.passes in let none = ap (λ (u : PassCore). times r u.held) (get_or_past c.passes p idle (omega arith)) ∙ times-nil r in absurd (omega arith)) (cases_lt p c.count)
 

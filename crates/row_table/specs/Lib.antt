@@ -4,3 +4,4 @@ pub mod Rule
 pub mod Moves
 pub mod Stack
 pub mod Calls
+pub mod Start

@@ -2,6 +2,7 @@
 #![tactic(auto)]
 
 mod answers;
+mod boot;
 mod pass;
 mod plan;
 mod stack;

@@ -19,6 +19,7 @@ pub(crate) type Views<P> = LinkedList<
 >;
 
 /// What the rule is told when the table is made: its sizes, and the book at the start as clauses see it.
+#[derive(Drop)]
 pub struct About<B> {
     pub layout: Layout,
     pub origin: Snapshot<B>,
