@@ -132,17 +132,19 @@ module _ {R B E : Type 0} (M : Meaning R B E) where
             (lock_shows k s.words r (either (eqb found 0) (n + 1) found) less)
             (holds_more k first s.words (set s.words (lock_at r) (either (eqb found 0) (n + 1) found)) h.book v r t.0 (lock_shows k s.words r (either (eqb found 0) (n + 1) found) less) less t.2 know),
         λ q same. let e : r ≡ q = omega arith in
-            subst (grab_says m found (w ∷ [], (r, Some (Row t.0)) ∷ m.1)) e
-            ((λ _. (
-              record {
-                place = place;
-                words = words;
-                content = t.0;
-                linked = not_in_hand M k first s h v mine r linked;
-                once = λ has. let there = has_held M k first s h v mine r has in omega arith;
-              },
-              refl,
-            )), λ z. absurd (z hit)),
+            subst (grab_says m found (w ∷ [], (r, Some (Row t.0)) ∷ m.1)) e (
+              (λ _. (
+                record {
+                  place = place;
+                  words = words;
+                  content = t.0;
+                  linked = not_in_hand M k first s h v mine r linked;
+                  once = λ has. let there = has_held M k first s h v mine r has in omega arith;
+                },
+                refl,
+              )),
+              λ z. absurd (z hit),
+            ),
       ))
       (λ miss. let w : PassView R B E = looked v r place None found in
       let number : either (eqb found 0) (n + 1) found ≡ found = ap (λ b. either b (n + 1) found) (ne_eqb found 0 miss) in
@@ -190,9 +192,12 @@ module _ {R B E : Type 0} (M : Meaning R B E) where
             (contents_locked M k s.words h.book r 0 s.homes homes less near h.contents
             (λ q ne. set_else s.homes r q (some (Some (Row x))) ne)
             (record {
-              linked = λ _. (x, lists.set_here s.homes r (some (Some (Row x))) inside,
-                  (let z = shows.rows r less in subst (λ (p : Place). M.agrees h.book p (row_words (set s.words (lock_at r) 0) r) x) (sym z.place)
-                  (subst (λ (xs : List ℕ). M.agrees h.book (place_at s.words r) xs x) (sym z.words) (fitting k first s.words h.book v r x know linked fits))));
+              linked = λ _. (
+                x,
+                lists.set_here s.homes r (some (Some (Row x))) inside,
+                (let z = shows.rows r less in subst (λ (p : Place). M.agrees h.book p (row_words (set s.words (lock_at r) 0) r) x) (sym z.place)
+                    (subst (λ (xs : List ℕ). M.agrees h.book (place_at s.words r) xs x) (sym z.words) (fitting k first s.words h.book v r x know linked fits))),
+              );
               others = λ z. absurd (omega arith);
             }))
             shows

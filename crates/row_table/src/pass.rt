@@ -92,8 +92,6 @@ impl<P: Plan> Pass<P> {
         self.stack.pop_front();
         iron.put_row(&mut self.seat, row, content);
         let word = iron.layout.lock(row) as usize;
-        iron.table
-            .shared
-            .store::<Release>(&mut self.seat, word, 0);
+        iron.table.shared.store::<Release>(&mut self.seat, word, 0);
     }
 }

@@ -12,9 +12,10 @@ cut-pass-requires-clause-first g c κs within =
     let inv = c.loop-kit.invariant in let left = dealt_length _ c.loop-kit.passes.items c.loop-kit.yielded c.loop-kit.kit-iterator.rest.items c.args.kits.items c.args.self.now.layout.passes inv.kits inv.kits_left c.requires.kits in
     let step = ap length c.in-Some.ensures.steps.0 in
     let n : ℕ = length c.loop-kit.passes.items in let is = c.len-number.ensures in
-    let at = next_new (Some c.args.self.now.table.shared.key.origin.value) n c.args.self.now.layout.passes c.loop-kit.seat.me (omega arith) inv.seat in
-    (boot_from (Some c.args.self.now.table.shared.key.origin.value) (n + 1) (c.args.self.now.layout.passes - (n + 1)),
-        at ∙ ap (λ (j : ℕ). (unmoved (Some c.args.self.now.table.shared.key.origin.value) j ∷ boot_from (Some c.args.self.now.table.shared.key.origin.value) (n + 1) (c.args.self.now.layout.passes - (n + 1)), [])) (let e : n ≡ c.len-number.result = omega arith in e))
+    let at = next_new (Some c.args.self.now.table.shared.key.origin.value) n c.args.self.now.layout.passes c.loop-kit.seat.me (omega arith) inv.seat in (
+      boot_from (Some c.args.self.now.table.shared.key.origin.value) (n + 1) (c.args.self.now.layout.passes - (n + 1)),
+      at ∙ ap (λ (j : ℕ). (unmoved (Some c.args.self.now.table.shared.key.origin.value) j ∷ boot_from (Some c.args.self.now.table.shared.key.origin.value) (n + 1) (c.args.self.now.layout.passes - (n + 1)), [])) (let e : n ≡ c.len-number.result = omega arith in e),
+    )
 
 pub loop-kit-preserved : goal.loop-kit-preserved
 loop-kit-preserved g c =
