@@ -66,6 +66,8 @@ module _ {R B E : Type 0} (M : Meaning R B E) where
             (λ (j : Contains v.rows y). let o = now.rows y j in record { there = o.there; shown = o.shown; place = o.place; agrees = o.agrees })
             (λ (e : g ≡ y). subst (λ (u : HeldRow R). IsHeldRow M k us b w u) e (record { there = less; shown = z.words; place = z.place; agrees = λ _. record { found = λ _. agrees; given = λ f. absurd (cc) } }))
             (Contains-push_cases v.rows g y i);
+        granted = now.granted;
+        hand = now.hand;
         found = now.found;
         origin = now.origin;
         seen = now.seen;
@@ -80,6 +82,8 @@ module _ {R B E : Type 0} (M : Meaning R B E) where
         epoch = now.epoch;
         held = rows_without r v.rows ∙ ap (without r) now.held;
         rows = λ y i. let o = now.rows y (kept (λ (u : HeldRow R). not (eqb u.row r)) v.rows y i).1 in record { there = o.there; shown = o.shown; place = o.place; agrees = o.agrees };
+        granted = now.granted;
+        hand = now.hand;
         found = now.found;
         origin = now.origin;
         seen = now.seen;
@@ -161,7 +165,7 @@ module _ {R B E : Type 0} (M : Meaning R B E) where
             (subst (RowHome M k (set s.words (lock_at r) (either (eqb found 0) (n + 1) found)) h.book s.homes r) (sym number)
             (home_moves M k s.words (set s.words (lock_at r) (either (eqb found 0) (n + 1) found)) h.book h.book s.homes s.homes r found (shows.rows r less) refl (λ _ _ a. a) (home_of M h.contents r less))))
             shows
-            (record { there = now.there; epoch = now.epoch; held = now.held; rows = λ y i. let o = now.rows y i in record { there = o.there; shown = o.shown; place = o.place; agrees = o.agrees }; found = now.found; origin = now.origin; seen = now.seen; mine = now.mine }),
+            (record { there = now.there; epoch = now.epoch; held = now.held; rows = λ y i. let o = now.rows y i in record { there = o.there; shown = o.shown; place = o.place; agrees = o.agrees }; granted = now.granted; hand = now.hand; found = now.found; origin = now.origin; seen = now.seen; mine = now.mine }),
         λ q same. let e : r ≡ q = omega arith in
             subst (grab_says m found (w ∷ [], m.1)) e
             ((λ z. absurd (miss z)), λ _. (place, lock_small c r found k.passes (omega arith) (λ p has. held_below c p r h.good has) (h.good.locks.rows.each r less), refl)),

@@ -202,6 +202,8 @@ module _ {R B E : Type 0} (M : Meaning R B E) where
               epoch = ap (λ (x : List ℕ). get_or x (epoch_at k.rows (0 + p)) 0) words_are ∙ epoch_zero k is (0 + p) (omega arith);
               held = refl;
               rows = λ h i. let less = i.1 in absurd (omega arith);
+              granted = refl;
+              hand = λ x i. let less = i.1 in absurd (omega arith);
               found = λ h. absurd (cc);
               origin = refl;
               seen = (M.journal book, refl);

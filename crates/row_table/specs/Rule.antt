@@ -7,9 +7,9 @@
 --     SameRows      two lists with the same rows
 --     Contents      what stands at home
 --     Agrees      what is known of how a held row agrees with the book
---     IsHeldRow, Knows      what is true of a row that a pass holds, and of all that a pass knows
+--     IsHeldRow, IsHandRow, Knows      what is true of a row that a pass holds, of one that it was granted, and of all that a pass knows
 --     Seats, Holds      no two seats have one pass;  the rule
-use Rattle.std.specs.Prelude.{◌≡◌, ℕ, ◌+◌, ◌<◌, ◌==◌, cond, Bool, true, false, List, [], ◌∷◌, ◌++◌, map, length, slice_index, slice_index_or, Option, None, Some}
+use Rattle.std.specs.Prelude.{◌≡◌, ℕ, ◌+◌, ◌<◌, ◌≤◌, ◌==◌, cond, Bool, true, false, List, [], ◌∷◌, ◌++◌, map, length, slice_index, slice_index_or, Option, None, Some}
 use Rattle.std.specs.List.{Contains}
 use Prim.Native.Nat.{zero, suc}
 use mathlib.Core.Option.{some}
@@ -20,13 +20,14 @@ use Rattle.table_place.specs.declared.Place.{Place}
 use Rattle.walk_core.specs.declared.pass.PassCore.{PassCore}
 use Rattle.walk_core.specs.Words.{lock_at, epoch_at, book_at, stale}
 use Rattle.walk_core.specs.Lists.{times}
-use Rattle.walk_core.specs.Core.{Core, idle, times_in_hand}
+use Rattle.walk_core.specs.Core.{Core, idle, granted_rows, times_in_hand}
 use Rattle.walk_core.specs.Good.{Good}
 use Rattle.row_layout.specs.declared.places.Layout.{Layout}
 use Rattle.row_table.specs.declared.plan.Content.{Content}
 use Rattle.row_table.specs.declared.plan.Content.TheVariants.{Row, Book}
 use Rattle.row_table.specs.declared.view.PassView.{PassView}
 use Rattle.row_table.specs.declared.view.HeldRow.{HeldRow}
+use Rattle.row_table.specs.declared.view.HandRow.{HandRow}
 use Rattle.row_table.specs.Plan.{Meaning}
 use Rattle.row_table.specs.Rows.{row_words, place_at, lock_of, generation_of}
 
@@ -60,10 +61,13 @@ SameRows xs ys = (r : ℕ) → times r xs ≡ times r ys
 abbrev pub row_part : {R : Type 0} → HeldRow R → ℕ
 row_part h = h.row
 
+abbrev pub hand_part : HandRow → ℕ
+hand_part x = x.row
+
 module _ {R B E : Type 0} where
   -- a pass that has done nothing, where the book at the start is known or not
   abbrev pub unmoved : Option B → ℕ → PassView R B E
-  unmoved origin p = record { number = p; core = idle; epoch = 0; rows = []; found = None; last = None; origin = origin; seen = []; mine = []; findings = [] }
+  unmoved origin p = record { number = p; core = idle; epoch = 0; rows = []; hand = []; found = None; last = None; origin = origin; seen = []; mine = []; findings = [] }
 
   abbrev pub view : Seat R B E → PassView R B E
   view m = slice_index_or m.0 0 (unmoved None 0)
@@ -112,11 +116,20 @@ module _ {R B E : Type 0} where
       pub place : place_at words h.row ≡ h.place
       pub agrees : times_in_hand h.row v.core ≡ 0 → Agrees book v.last h
 
+    -- a row that the pass was granted
+    pub record IsHandRow (k : Layout) (words : List ℕ) (book : B) (x : HandRow) : Type 0 where
+      pub there : x.row < k.rows
+      pub shown : generation_of words x.row ≡ x.generation
+      pub below : x.generation < x.low
+      pub fresh : x.high ≤ M.next_generation book
+
     pub record Knows (k : Layout) (first : B) (words : List ℕ) (book : B) (v : PassView R B E) : Type 0 where
       pub there : v.number < k.passes
       pub epoch : slice_index words (epoch_at k.rows v.number) ≡ v.epoch
       pub held : map row_part v.rows ≡ v.core.held
       pub rows : (h : HeldRow R) → Contains v.rows h → IsHeldRow k words book v h
+      pub granted : map hand_part v.hand ≡ granted_rows v.core
+      pub hand : (x : HandRow) → Contains v.hand x → IsHandRow k words book x
       pub found : v.core.has_book ≡ true → v.found ≡ Some book
       pub origin : v.origin ≡ Some first
       pub seen : starts_with (M.journal book) v.seen

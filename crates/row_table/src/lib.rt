@@ -14,4 +14,4 @@ pub use pass::Pass;
 pub use plan::{Content, Plan};
 pub use row_layout::Layout;
 pub use table::Iron;
-pub use view::{Finding, HeldRow, PassView};
+pub use view::{Finding, HandRow, HeldRow, PassView};

@@ -18,6 +18,17 @@ pub struct HeldRow<R> {
     pub is_given: bool,
 }
 
+/// A row that a give granted and that was not linked since.
+pub struct HandRow {
+    pub row: u32,
+    /// Its generation word.
+    pub generation: u64,
+    /// A new generation of the row is at least this one.
+    pub low: u64,
+    /// And below this one.
+    pub high: u64,
+}
+
 /// A word that a look or a grab found.
 pub struct Finding {
     pub row: u32,
@@ -37,6 +48,8 @@ pub struct PassView<R, B, E> {
     pub epoch: u64,
     /// The rows that it holds, in the order in which it got them.
     pub rows: LinkedList<HeldRow<R>>,
+    /// The rows that it was granted and has not linked.
+    pub hand: LinkedList<HandRow>,
     /// The book that the turn found, while the pass has it.
     pub found: Option<B>,
     /// The book that it gave last.
