@@ -6,3 +6,5 @@ pub mod Locks
 pub mod Told
 pub mod Start
 pub mod Spans
+pub mod Regions
+pub mod Turns

@@ -8,7 +8,7 @@ use Rattle.walk_core.proofs.RowLists.{times-nil, times-cons_same, times-cons_oth
 use Rattle.walk_core.proofs.Stepped.{length-missing}
 use Rattle.row_table.specs.declared.view.PassView.{PassView}
 use Rattle.row_table.specs.declared.plan.Content.{Content}
-use Rattle.row_table.specs.declared.plan.Content.TheVariants.{Row}
+use Rattle.row_table.specs.declared.plan.Content.TheVariants.{Row, Book}
 use Rattle.row_table.specs.Rule.{Slot, Seat, view, IsOne, SameRows}
 use Rattle.row_table.specs.Stack.{outs, carried, AreRows}
 
@@ -98,3 +98,27 @@ carried_row rows r held items has same i = let s = same r in let a = times-appen
 -- the seat with the value that was put into the slot in front
 pub put_in : {R B E : Type 0} (n : ℕ) (m0 m1 m2 : Seat R B E) (x y : ℕ × Slot R B) (cs : List (ℕ × Slot R B)) → IsOne n m0 → m1.0 ≡ m0.0 → m1.1 ≡ y ∷ cs → m2 ≡ (m1.0, x ∷ rest m1.1) → m2 ≡ (view m0 ∷ [], x ∷ cs)
 put_in n m0 m1 m2 x y cs one same front is = is ∙ (λ i. ((same ∙ one.0) i, x ∷ ap rest front i))
+
+-- the book that came out is the one of which the step told
+pub book_came_out : {R B E : Type 0} (m : Seat R B E) (vs : List (PassView R B E)) (r q : ℕ) (x y : B) (cs : List (ℕ × Slot R B)) → m ≡ (vs, (r, Some (Book x)) ∷ cs) → m.1 ≡ (q, Some (Book y)) ∷ rest m.1 → x ≡ y
+book_came_out m vs r q x y cs e f = let opt = same_front _ _ _ _ (sym (slots_of m vs ((r, Some (Book x)) ∷ cs) e) ∙ f) in cc
+
+-- the book's slot
+
+pub carries_book : (rows : ℕ) (held items : List ℕ) (has : Bool) → has ≡ false → SameRows items (carried rows held has) → SameRows (rows ∷ items) (carried rows held true)
+carries_book rows held items has none same q =
+    let s = subst (λ (b : Bool). times q items ≡ times q (carried rows held b)) none (same q) in let a = times-append q held [] in let b = times-append q held (rows ∷ []) in
+    let c = times-append q (rows ∷ []) items in let d = times-nil q in omega arith
+
+pub carried_book : (rows : ℕ) (held items : List ℕ) (has : Bool) → has ≡ true → SameRows items (carried rows held has) → Has items rows
+carried_book rows held items has some_book same =
+    let s = subst (λ (b : Bool). times rows items ≡ times rows (carried rows held b)) some_book (same rows) in let b = times-append rows held (rows ∷ []) in let c = times_one_same rows rows refl in omega arith
+
+pub carries_no_book : (rows : ℕ) (held more : List ℕ) (has : Bool) → has ≡ true → SameRows (rows ∷ more) (carried rows held has) → SameRows more (carried rows held false)
+carries_no_book rows held more has some_book same q =
+    let s = subst (λ (b : Bool). times q (rows ∷ more) ≡ times q (carried rows held b)) some_book (same q) in let a = times-append q held [] in let b = times-append q held (rows ∷ []) in
+    let c = times-append q (rows ∷ []) more in let d = times-nil q in omega arith
+
+-- while no book is carried, its slot has room
+pub no_book : (rows : ℕ) (held items : List ℕ) (has : Bool) → has ≡ false → AreRows rows held → SameRows items (carried rows held has) → times rows items ≡ 0
+no_book rows held items has none are same = let past = (are rows).1 in not_carried rows rows held items has same (past (omega arith)) (λ e. let clash : true ≡ false = sym e ∙ none in absurd (cc))

@@ -6,7 +6,8 @@
 --     MayGive      when a pass may give the second book, where its turn found the first
 --     turned, gave      the pass after a turn that got the book, and after a give
 --     Learns      what a turn that got the book tells
---     turn_says, turn_told, Grants, give_told      what a step tells its seat
+--     turn_says, turn_told, Grants, give_says, give_told      what a step tells its seat
+--     Turns, Gives, IsGivable      what a turn answers, what a give does, and when it may
 use Rattle.std.specs.Prelude.{◌≡◌, ◌≢◌, ℕ, ◌+◌, ◌%◌, ◌<◌, ◌≤◌, ◌⊎◌, Bool, not, true, false, List, [], ◌∷◌, ◌++◌, map, slice_index, Option, None, Some}
 use Rattle.std.specs.List.{Contains, filter}
 use Rattle.atomic_table.specs.Table.{Step, rest}
@@ -24,6 +25,8 @@ use Rattle.walk_core.specs.Guards.{Guard, put_rows}
 use Rattle.walk_core.specs.Good.{sample_of}
 use Rattle.row_layout.specs.declared.places.Layout.{Layout}
 use Rattle.row_table.specs.declared.plan.Content.TheVariants.{Row, Book}
+use Rattle.row_table.specs.declared.answers.Turned.{Turned}
+use Rattle.row_table.specs.declared.answers.Turned.TheVariants.{Got, Held}
 use Rattle.row_table.specs.declared.view.PassView.{PassView}
 use Rattle.row_table.specs.declared.view.HeldRow.{HeldRow}
 use Rattle.row_table.specs.declared.view.HandRow.{HandRow}
@@ -135,6 +138,27 @@ module _ {R B E : Type 0} where
       pub generation : ℕ → ℕ
       pub low : (r : ℕ) → Has (taken_rows old new) r → generation r < M.next_generation old
 
+    -- of a give of the second book, where the turn found the first
+    abbrev pub give_says : Seat R B E → Seat R B E → B → B → Type 0
+    give_says m m' old new = (grants : Grants old new) × (m' ≡ (gave (view m) old new grants.generation ∷ [], rest m.1))
+
     abbrev pub give_told : Step (Slot R B) → Seat R B E → ℕ → Seat R B E → Type 0
-    give_told st m n m' = (rows : ℕ) (old new : B) → (view m).found ≡ Some old → m.1 ≡ (rows, Some (Book new)) ∷ rest m.1
-        → (grants : Grants old new) × (m' ≡ (gave (view m) old new grants.generation ∷ [], rest m.1))
+    give_told st m n m' = (rows : ℕ) (old new : B) → (view m).found ≡ Some old → m.1 ≡ (rows, Some (Book new)) ∷ rest m.1 → give_says m m' old new
+
+    -- What the calls answer
+
+    abbrev pub Turns : ℕ → PassView R B E → Turned B → PassView R B E → Type 0
+    Turns rows v (Got book) w = Learns rows v book × (w ≡ turned v book)
+    Turns rows v (Held holder) w = w ≡ v
+
+    pub record Gives (v : PassView R B E) (new : B) (w : PassView R B E) : Type 0 where
+      pub old : B
+      pub found : v.found ≡ Some old
+      pub grants : Grants old new
+      pub after : w ≡ gave v old new grants.generation
+
+    -- the book that the pass has may be given in this form
+    pub record IsGivable (k : Layout) (v : PassView R B E) (new : B) : Type 0 where
+      pub old : B
+      pub found : v.found ≡ Some old
+      pub may : MayGive k v old new

@@ -77,3 +77,36 @@ impl<P: Plan> Iron<P> {
         );
     }
 }
+
+impl<P: Plan> Iron<P> {
+    // The book goes out.
+    pub(crate) fn take_book(&self, seat: &mut Seat<Slot<P>, Views<P>>) -> P::Book
+        requires table { seat.old.table_id ≡ self.now.table.shared.table_id }
+        requires front { (b : P.Book) × (seat.old.me.1 ≡ (self.now.layout.rows, Some (Content.Book b)) ∷ rest seat.old.me.1) }
+        ensures table { seat.new.table_id ≡ seat.old.table_id }
+        ensures front { seat.old.me.1 ≡ (self.now.layout.rows, Some (Content.Book result)) ∷ rest seat.old.me.1 }
+        ensures seat { seat.new.me ≡ (seat.old.me.0, (self.now.layout.rows, None) ∷ rest seat.old.me.1) }
+    {
+        let slot = self.layout.rows as usize;
+        self.table
+            .shared
+            .exchange(seat, slot, None)
+            .unwrap()
+            .into_book()
+    }
+
+    // The book's slot has this book.
+    pub(crate) fn put_book(&self, seat: &mut Seat<Slot<P>, Views<P>>, book: P::Book)
+        requires table { seat.old.table_id ≡ self.now.table.shared.table_id }
+        requires front { seat.old.me.1 ≡ (self.now.layout.rows, None) ∷ rest seat.old.me.1 }
+        ensures table { seat.new.table_id ≡ seat.old.table_id }
+        ensures seat { seat.new.me ≡ (seat.old.me.0, (self.now.layout.rows, Some (Content.Book book)) ∷ rest seat.old.me.1) }
+    {
+        let slot = self.layout.rows as usize;
+        drop(
+            self.table
+                .shared
+                .exchange(seat, slot, Some(Content::Book(book))),
+        );
+    }
+}
