@@ -316,11 +316,11 @@ module _ {R B E : Type 0} (M : Meaning R B E) where
             (giver_knows k first s h v mine lawful has new may_give know shows)
             (λ p u ne at. other_knows k first s h v mine lawful has new may_give p u ne at shows),
         λ rows a b finds_a fronts.
-        let old_is : a ≡ h.book = cc in
-        let front_is = same_front _ _ _ _ fronts in let new_is : new ≡ b = cc in
-        subst (λ (x : B). give_says M (v ∷ [], (k.rows, Some (Book new)) ∷ cs) (w ∷ [], cs) x b) (sym old_is)
-        (subst (give_says M (v ∷ [], (k.rows, Some (Book new)) ∷ cs) (w ∷ [], cs) h.book) new_is
-        (record { generation = generation_of s.words; low = λ r i. h.generations r (taken_there k first s h v mine lawful has new may_give r i) }, refl)),
+            let old_is : a ≡ h.book = cc in
+            let front_is = same_front _ _ _ _ fronts in let new_is : new ≡ b = cc in
+            subst (λ (x : B). give_says M (v ∷ [], (k.rows, Some (Book new)) ∷ cs) (w ∷ [], cs) x b) (sym old_is)
+            (subst (give_says M (v ∷ [], (k.rows, Some (Book new)) ∷ cs) (w ∷ [], cs) h.book) new_is
+            (record { generation = generation_of s.words; low = λ r i. h.generations r (taken_there k first s h v mine lawful has new may_give r i) }, refl)),
       ))
 
   -- the same where the place and the number are known by equations

@@ -153,9 +153,7 @@ impl<P: Plan> Pass<P> {
         self.stack.pop_front();
         iron.put_book(&mut self.seat, book);
         let word = iron.layout.book() as usize;
-        iron.table
-            .shared
-            .store::<Give<P>>(&mut self.seat, word, 0);
+        iron.table.shared.store::<Give<P>>(&mut self.seat, word, 0);
     }
 }
 
