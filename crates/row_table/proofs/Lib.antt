@@ -8,3 +8,4 @@ pub mod Start
 pub mod Spans
 pub mod Regions
 pub mod Turns
+pub mod End

@@ -79,7 +79,7 @@ append_same : (xs ys zs : List ℕ) → SameRows xs ys → SameRows (xs ++ zs) (
 append_same xs ys zs same q = let s = same q in let a = times-append q xs zs in let b = times-append q ys zs in omega arith
 
 -- a pass that has the book is there
-book_below : (c : Core) (p : ℕ) → Good c → (pass_at c p).has_book ≡ true → p < c.count
+pub book_below : (c : Core) (p : ℕ) → Good c → (pass_at c p).has_book ≡ true → p < c.count
 book_below c p g has = ⊎_elim (λ (less : p < c.count). less)
     (λ past. let all = g.sizes.passes in let clash : true ≡ false = sym has ∙ ap (λ (u : PassCore). u.has_book) (get_or_past c.passes p idle (omega arith)) in absurd (cc)) (cases_lt p c.count)
 

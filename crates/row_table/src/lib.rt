@@ -3,8 +3,10 @@
 
 mod answers;
 mod boot;
+mod close;
 mod pass;
 mod plan;
+mod rooms;
 mod stack;
 mod table;
 mod view;
