@@ -25,7 +25,8 @@ use Rattle.row_table.specs.declared.plan.Content.TheVariants.{Row, Book}
 use Rattle.row_table.specs.Plan.{Meaning}
 use Rattle.row_table.specs.Rows.{row_words, place_at, lock_of}
 use Rattle.row_table.specs.Rule.{Slot, Seat, Table, levels, core_part, core_of, Seats, starts_with, own_places, Knows, Holds}
-use Rattle.row_table.specs.Close.{IsIdle, HasAll, IsReachedIn, IsReached, IsGoodEnd, KnownAtEnd, AtEnd}
+use Rattle.row_layout.specs.Places.{word_count}
+use Rattle.row_table.specs.Close.{IsIdle, HasAll, IsReachedIn, IsReached, IsGoodEnd, KnownAtEnd, AtEnd, IsClosed}
 use Rattle.row_table.proofs.Locks.{held_below}
 use Rattle.row_table.proofs.Turns.{book_below}
 
@@ -223,3 +224,32 @@ now_taken fs i k old less = dite (ℕ_discrete k i)
     (λ e. ⊎_elim (λ (h : i < length fs). ap (λ (j : ℕ). get_or (set fs i false) j false) e ∙ get_or-set_same fs i false false h)
     (λ past. get_or_past (set fs i false) k false (let long = length-set fs i false in omega arith)) (cases_lt i (length fs)))
     (λ ne. get_or-set_other fs i k false false ne ∙ old k (omega arith))
+
+there_at : {A : Type 0} (l : List A) (i : ℕ) → i < length l → (a : A) × (get_elem? l i ≡ some a)
+there_at [] i h = absurd (omega arith)
+there_at (x ∷ xs) zero h = (x, refl)
+there_at (x ∷ xs) (suc i) h = there_at xs i (omega arith)
+
+-- what was read out of the closed table
+pub closed_is : {R B E : Type 0} (M : Meaning R B E) (k : Layout) (views : List (PassView R B E)) (ws : List ℕ) (xs : List (Slot R B)) (words epochs : List ℕ) (rows : List R) (book : B) (first : ℕ)
+    → AtEnd M k views ws xs → words ≡ ws → first ≡ 515 * k.rows → length epochs ≡ k.passes → ((i : ℕ) (x : ℕ) → get_elem? epochs i ≡ some x → get_elem? words (first + i) ≡ some x)
+    → length rows ≡ k.rows → ((r : ℕ) (x : R) → get_elem? rows r ≡ some x → get_elem? xs r ≡ some (Some (Row x))) → get_elem? xs k.rows ≡ some (Some (Book book))
+    → IsClosed M k views words epochs rows book
+closed_is {R} {B} M k views ws xs words epochs rows book first end same at_first all_epochs epochs_from all_rows rows_from book_from =
+    let both = sym end.book_there ∙ book_from in let book_is : end.book ≡ book = cc in
+    let long : length ws ≡ word_count k = ap length (sym end.good.words_same) ∙ (end.good.good.sizes.words ∙ (λ i. 515 * end.good.rows i + end.good.count i + 1)) in
+    let epoch : (t : ℕ) → t < k.passes → get_or epochs t 0 ≡ get_or words (epoch_at k.rows t) 0 = λ t less. (let x = there_at epochs t (omega arith) in
+    let at : get_elem? words (epoch_at k.rows t) ≡ some x.0 = ap (λ (n : ℕ). get_elem? words n) (let e : epoch_at k.rows t ≡ first + t = omega arith in e) ∙ epochs_from t x.0 x.1 in
+    found_is epochs t x.0 0 x.1 ∙ sym (found_is words (epoch_at k.rows t) x.0 0 at)) in
+    let from : (t : ℕ) → get_or words (epoch_at k.rows t) 0 ≡ get_or ws (epoch_at k.rows t) 0 = λ t. ap (λ (l : List ℕ). get_or l (epoch_at k.rows t) 0) same in
+    record {
+      all_words = ap length same ∙ long;
+      all_epochs = all_epochs;
+      all_rows = all_rows;
+      good = subst (λ (l : List ℕ). IsGoodEnd M k l book) (sym same) (subst (IsGoodEnd M k ws) book_is end.good);
+      epochs_are = epoch;
+      even = λ t less. ap (λ (n : ℕ). n % 2) (epoch t less ∙ from t) ∙ end.even t less;
+      agree = λ r x reached at. subst (λ (l : List ℕ). M.agrees book (place_at l r) (row_words l r) x) (sym same)
+          (subst (λ (b : B). M.agrees b (place_at ws r) (row_words ws r) x) book_is (end.agree r x (subst (λ (l : List ℕ). IsReached l r) same reached) (rows_from r x at)));
+      knows = λ v i. let o = end.knows v i in let e = (epoch v.number o.0 ∙ from v.number) in subst (λ (b : B). KnownAtEnd M (get_or epochs v.number 0) b v) book_is (record { same_epoch = e ∙ o.1.same_epoch; seen = o.1.seen; mine = o.1.mine });
+    }

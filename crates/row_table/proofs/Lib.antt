@@ -9,3 +9,4 @@ pub mod Spans
 pub mod Regions
 pub mod Turns
 pub mod End
+pub mod Tally

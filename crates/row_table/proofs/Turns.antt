@@ -56,7 +56,7 @@ has_contained [] r c = let h = c.1 in absurd (omega arith)
 has_contained (x ∷ xs) r c = let n = times-cons r x xs in ⊎_elim (λ (z : x ≡ r). let one = times-cons_same r x xs z in omega arith)
     (λ (l : Contains xs r). let o = has_contained xs r l in omega arith) (head_or_later x xs r c)
 
-same_parts : {X Y : Type 0} (f : X → Y) (g : Y → ℕ) (h : X → ℕ) → ((x : X) → g (f x) ≡ h x) → (xs : List X) → map g (map f xs) ≡ map h xs
+pub same_parts : {X Y : Type 0} (f : X → Y) (g : Y → ℕ) (h : X → ℕ) → ((x : X) → g (f x) ≡ h x) → (xs : List X) → map g (map f xs) ≡ map h xs
 same_parts f g h same [] = refl
 same_parts f g h same (x ∷ xs) = λ i. same x i ∷ same_parts f g h same xs i
 

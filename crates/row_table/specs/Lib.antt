@@ -8,3 +8,4 @@ pub mod Calls
 pub mod Rooms
 pub mod Close
 pub mod Start
+pub mod Tally

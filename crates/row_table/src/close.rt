@@ -13,6 +13,7 @@ ghost use Rattle.row_layout.specs.Places.{IsLayout, word_count};
 
 use crate::pass::Pass;
 use crate::plan::{Content, Plan};
+use crate::rooms::{Rooms, unstore};
 use crate::table::{Iron, Slot, Views};
 use crate::view::PassView;
 use atomic_table::{Closed, Join, Play, Seat};
@@ -127,4 +128,74 @@ fn take_book<P: Plan>(mut closed: Closed<Slot<P>, Global>, rows: usize) -> P::Bo
     let last = closed.take(rows);
     closed.free();
     last.unwrap().into_book()
+}
+
+/// What a table is closed into. The vectors were made with the table.
+#[derive(Drop)]
+pub struct Parts<P: Plan> {
+    /// The words at their places.
+    pub words: Vec<u64>,
+    /// The epoch word of each pass.
+    pub epochs: Vec<u64>,
+    /// What each row holds.
+    pub rows: Vec<P::Row>,
+    pub book: P::Book,
+}
+
+/// What a closing answers.
+#[derive(Drop)]
+pub enum IronClose<P: Plan> {
+    Closed(Parts<P>),
+    /// Some pass is missing. All is as it was.
+    NotAll(Iron<P>, Vec<Pass<P>>),
+}
+
+impl<P: Plan> Iron<P> {
+    // The words and the values of a table whose passes are all in one seat.
+    fn finish(self, seat: Seat<Slot<P>, Views<P>>) -> Parts<P>
+        requires table { seat.table_id ≡ self.table.shared.table_id }
+        requires all { HasAll self.layout.passes (map (λ v. v.number) seat.me.0) }
+        requires idle { (v : _) → Contains seat.me.0 v → IsIdle v }
+        ensures { IsClosed P.meaning self.layout seat.me.0 result.words.items result.epochs.items result.rows.items result.book }
+    {
+        let Iron {
+            table,
+            layout,
+            rooms,
+        } = self;
+        let Rooms {
+            mut words,
+            mut epochs,
+            mut rows,
+        } = unstore(rooms);
+        let mut closed = table.close_with(seat);
+        read_words(&closed, &mut words, layout.book() as usize + 1);
+        let first = layout.epoch(0) as usize;
+        read_epochs(words.as_slice(), &mut epochs, first, layout.passes as usize);
+        take_rows::<P>(&mut closed, &mut rows, layout.rows as usize);
+        let book = take_book::<P>(closed, layout.rows as usize);
+        Parts {
+            words,
+            epochs,
+            rows,
+            book,
+        }
+    }
+}
+
+impl<P: Plan> Iron<P> {
+    /// The words, the rows and the book of the table, if all of its passes are given back. They are outside and have nothing.
+    pub fn close(self, passes: Vec<Pass<P>>) -> IronClose<P>
+        requires tables { All (λ p. p.seat.table_id ≡ self.table.shared.table_id) passes.items }
+        requires idle { All (λ p. IsIdle (view p.seat.me)) passes.items }
+        ensures closed { (parts : _) → result ≡ IronClose.Closed parts → HasAll self.layout.passes (map (λ p. p.number) passes.items)
+            × IsClosed P.meaning self.layout (map (λ p. view p.seat.me) passes.items) parts.words.items parts.epochs.items parts.rows.items parts.book }
+        ensures not_all { (iron : _) (back : _) → result ≡ IronClose.NotAll iron back → ¬ HasAll self.layout.passes (map (λ p. p.number) passes.items) × (iron ≡ self) × (back ≡ passes) }
+    {
+        if !has_all(passes.as_slice(), self.layout.passes) {
+            return IronClose::NotAll(self, passes);
+        }
+        let seat = self.gather(passes);
+        IronClose::Closed(self.finish(seat))
+    }
 }
