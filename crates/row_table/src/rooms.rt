@@ -39,7 +39,7 @@ fn made<R: Drop>(alloc: Global, layout: &Layout, count: usize) -> Result<Rooms<R
     })
 }
 
-pub fn store<R: Drop + Send>(
+pub fn store<R: Drop>(
     alloc: Global,
     layout: &Layout,
     count: usize,
@@ -56,7 +56,7 @@ pub fn store<R: Drop + Send>(
     }
 }
 
-pub fn unstore<R: Drop + Send>(store: Store<R>) -> Rooms<R>
+pub fn unstore<R: Drop>(store: Store<R>) -> Rooms<R>
     requires { store.shared.table_id.slots ≡ 1 }
     ensures { IsRoom store.shared.key result }
 {

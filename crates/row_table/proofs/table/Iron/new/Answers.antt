@@ -28,4 +28,4 @@ returns-clause-views g c k d less = let ok = c.in-Ok.ensures.ok in let o = c.in_
     (o.0, o.1 ∙ ap (λ (b : g.row.P-Book.Denot). unmoved (Some b) (get_or c.in_ok-passes.passes.items k d).number) at)
 
 pub store-requires : goal.store-requires
-store-requires g c = (search rules, let long = ap length c.in_ok-words.ensures ∙ long_is c.args.layout c.requires.layout in let is = c.len.ensures in let count = c.in_ok-words.words.ok in omega arith)
+store-requires g c = let long = ap length c.in_ok-words.ensures ∙ long_is c.args.layout c.requires.layout in let is = c.len.ensures in let count = c.in_ok-words.words.ok in omega arith
