@@ -1,6 +1,10 @@
 -- What the tests' plan lets a pass do.
-use Rattle.std.proofs.Common.{◌≡◌, ℕ, ◌+◌, ◌-◌, ◌<◌, ◌≤◌, true, false, List, [], ◌∷◌, ◌++◌, length, sym, refl, ap, ◌∙◌, subst, arith, append-nil, Some}
+use Rattle.std.proofs.Common.{◌≡◌, ℕ, ◌+◌, ◌-◌, ◌<◌, ◌≤◌, true, false, Bool, List, [], ◌∷◌, ◌++◌, length, length-append, inl, inr, sym, refl, ap, ◌∙◌, subst, arith, append-nil, Some}
+use Rattle.std.specs.Bool.{if◌then◌else◌}
 use Rattle.std.specs.List.{range_with_len, filter}
+use mathlib.Core.Option.{some, some-injective}
+use lib.ListN.{get_elem?}
+use Rattle.atomic_table.proofs.Lists.{at_last}
 use Rattle.walk_core.proofs.RowLists.{times-nil}
 use Rattle.walk_core.specs.Events.{unlinked_after_give}
 use Rattle.walk_core.specs.declared.pass.UnlinkedRow.{UnlinkedRow}
@@ -13,7 +17,7 @@ use Rattle.row_table.specs.Close.{IsIdle}
 use Rattle.row_table.specs.Start.{MayStart}
 use Rattle.row_table.specs.Tally.{Notes, tally}
 
-abbrev View : Type 0
+abbrev pub View : Type 0
 View = PassView ℕ Notes (ℕ × ℕ)
 
 pub may_add : (k : Layout) (v : View) (old new : Notes) → v.core.has_book ≡ true → HasGrown old.items new.items → ((e : ℕ × ℕ) → new.items ≡ old.items ++ e ∷ [] → e.0 ≡ v.number) → MayGive tally k v old new
@@ -59,3 +63,10 @@ idle_again v w u book new idle e gives = subst (λ (x : View). IsIdle x) (sym gi
   unlinked = ap (unlinked_after_give []) (ap (λ (x : View). x.core.unlinked) e ∙ idle.unlinked);
   has_not = refl;
 })
+
+-- what a push that may fail did
+pub added : (ok : Bool) (old new : List (ℕ × ℕ)) (x : ℕ × ℕ) → new ≡ (if ok then old ++ x ∷ [] else old) → HasGrown old new × ((e : ℕ × ℕ) → new ≡ old ++ e ∷ [] → e.0 ≡ x.0)
+added true old new x is = (inr (x, is), λ e at. let both = ap (λ (l : List (ℕ × ℕ)). get_elem? l (length old)) (sym at ∙ is) in
+    let one = at_last old e (length old) refl in let two = at_last old x (length old) refl in
+    ap (λ (y : ℕ × ℕ). y.0) (some-injective e x (sym one ∙ (both ∙ two))))
+added false old new x is = (inl is, λ e at. let long = ap length (sym at ∙ is) in let more = length-append old (e ∷ []) in absurd (omega arith))
