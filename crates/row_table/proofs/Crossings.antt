@@ -19,7 +19,7 @@ use Rattle.row_table.specs.declared.plan.Content.TheVariants.{Row, Book}
 use Rattle.row_table.specs.Plan.{Meaning}
 use Rattle.row_table.specs.Rows.{row_words, place_at, lock_of, generation_of}
 use Rattle.row_table.specs.Rule.{Homes, Seat, Table, levels, view, IsOne, core_of, Contents, IsHeldRow, Knows, Holds}
-use Rattle.row_table.specs.Crossings.{entered, left, cross_told, epoch_told}
+use Rattle.row_table.specs.Crossings.{entered, left, CrossTells, EpochTells}
 use Rattle.row_table.proofs.Shown.{ShowsSame, shows_same}
 use Rattle.row_table.proofs.Frames.{RowHome, words_after, moved, unchanged, home_of, home_moves}
 
@@ -67,7 +67,7 @@ module _ {R B E : Type 0} (M : Meaning R B E) where
       → ((f (view m)).number ≡ (view m).number) → ((p y : ℕ) → (f (view m)).core ≡ pass_after levels (e p) y (view m).core)
       → ((s : Table R B E) (h : Holds M k first s) → get_or s.words (epoch_at k.rows (view m).number) 0 ≡ (view m).epoch → Guard (core_of M k s.words h.passes h.free h.book) (view m).core (e (view m).number))
       → ((b : B) (ws : List ℕ) → get_or ws (epoch_at k.rows (view m).number) 0 ≡ (view m).epoch + 1 → Knows M k first ws b (record (view m) { epoch = (view m).epoch + 1 }) → Knows M k first ws b (f (view m)))
-      → Allows (Holds M k first) slots id m (epoch_at k.rows n) (λ y. (y + 1) % 2 ^ 64) (cross_told f m)
+      → Allows (Holds M k first) slots id m (epoch_at k.rows n) (λ y. (y + 1) % 2 ^ 64) (CrossTells f m)
   crosses k first slots id m n e f one by at number free limbo same is guard again s h long me _ =
       let v : PassView R B E = view m in
       let me' : get_elem? s.views id ≡ some (v ∷ []) = me ∙ ap some one.0 in
@@ -104,19 +104,19 @@ module _ {R B E : Type 0} (M : Meaning R B E) where
       )
 
   pub enters : (k : Layout) (first : B) (slots id : ℕ) (m : Seat R B E) (n : ℕ) → IsOne n m → (view m).core.stand ≡ None → (view m).epoch < 2 ^ 62
-      → Allows (Holds M k first) slots id m (epoch_at k.rows n) (λ y. (y + 1) % 2 ^ 64) (cross_told entered m)
+      → Allows (Holds M k first) slots id m (epoch_at k.rows n) (λ y. (y + 1) % 2 ^ 64) (CrossTells entered m)
   enters k first slots id m n one outside low = crosses k first slots id m n (λ p. Enter p) entered one (λ p. refl) (λ p. refl) (λ p y. refl) (λ p free. refl) (λ p limbo. refl) refl (λ p y. refl)
       (λ s h is. (outside, subst (λ (y : ℕ). y < 2 ^ 62) (sym is) low))
       (λ b ws is old. record { there = old.there; epoch = old.epoch; held = old.held; rows = λ y i. let o = old.rows y i in record { there = o.there; shown = o.shown; place = o.place; agrees = o.agrees }; granted = old.granted; hand = old.hand; found = old.found; origin = old.origin; seen = old.seen; mine = old.mine })
 
   pub leaves : (k : Layout) (first : B) (slots id : ℕ) (m : Seat R B E) (n : ℕ) → IsOne n m → IsSome (view m).core.stand
-      → Allows (Holds M k first) slots id m (epoch_at k.rows n) (λ y. (y + 1) % 2 ^ 64) (cross_told left m)
+      → Allows (Holds M k first) slots id m (epoch_at k.rows n) (λ y. (y + 1) % 2 ^ 64) (CrossTells left m)
   leaves k first slots id m n one inside = crosses k first slots id m n (λ p. Leave p) left one (λ p. refl) (λ p. refl) (λ p y. refl) (λ p free. refl) (λ p limbo. refl) refl (λ p y. refl)
       (λ s h is. inside)
       (λ b ws is old. record { there = old.there; epoch = old.epoch; held = old.held; rows = λ y i. let o = old.rows y i in record { there = o.there; shown = o.shown; place = o.place; agrees = o.agrees }; granted = old.granted; hand = old.hand; found = old.found; origin = old.origin; seen = old.seen; mine = old.mine })
 
   -- a load of the own epoch word
-  pub reads_epoch : (k : Layout) (first : B) (slots id : ℕ) (m : Seat R B E) (n : ℕ) → IsOne n m → Allows (Holds M k first) slots id m (epoch_at k.rows n) (λ y. y) (epoch_told m)
+  pub reads_epoch : (k : Layout) (first : B) (slots id : ℕ) (m : Seat R B E) (n : ℕ) → IsOne n m → Allows (Holds M k first) slots id m (epoch_at k.rows n) (λ y. y) (EpochTells m)
   reads_epoch k first slots id m n one s h long me _ =
       let v : PassView R B E = view m in
       let me' : get_elem? s.views id ≡ some (v ∷ []) = me ∙ ap some one.0 in
@@ -132,12 +132,12 @@ module _ {R B E : Type 0} (M : Meaning R B E) where
 
   -- the same where the place is known by an equation
   pub enters_at : (k : Layout) (first : B) (slots id : ℕ) (m : Seat R B E) (n i : ℕ) → i ≡ epoch_at k.rows n → IsOne n m → (view m).core.stand ≡ None → (view m).epoch < 2 ^ 62
-      → Allows (Holds M k first) slots id m i (λ y. (y + 1) % 2 ^ 64) (cross_told entered m)
-  enters_at k first slots id m n i at one outside low = subst (λ (j : ℕ). Allows (Holds M k first) slots id m j (λ y. (y + 1) % 2 ^ 64) (cross_told entered m)) (sym at) (enters k first slots id m n one outside low)
+      → Allows (Holds M k first) slots id m i (λ y. (y + 1) % 2 ^ 64) (CrossTells entered m)
+  enters_at k first slots id m n i at one outside low = subst (λ (j : ℕ). Allows (Holds M k first) slots id m j (λ y. (y + 1) % 2 ^ 64) (CrossTells entered m)) (sym at) (enters k first slots id m n one outside low)
 
   pub leaves_at : (k : Layout) (first : B) (slots id : ℕ) (m : Seat R B E) (n i : ℕ) → i ≡ epoch_at k.rows n → IsOne n m → IsSome (view m).core.stand
-      → Allows (Holds M k first) slots id m i (λ y. (y + 1) % 2 ^ 64) (cross_told left m)
-  leaves_at k first slots id m n i at one inside = subst (λ (j : ℕ). Allows (Holds M k first) slots id m j (λ y. (y + 1) % 2 ^ 64) (cross_told left m)) (sym at) (leaves k first slots id m n one inside)
+      → Allows (Holds M k first) slots id m i (λ y. (y + 1) % 2 ^ 64) (CrossTells left m)
+  leaves_at k first slots id m n i at one inside = subst (λ (j : ℕ). Allows (Holds M k first) slots id m j (λ y. (y + 1) % 2 ^ 64) (CrossTells left m)) (sym at) (leaves k first slots id m n one inside)
 
-  pub reads_at : (k : Layout) (first : B) (slots id : ℕ) (m : Seat R B E) (n i : ℕ) → i ≡ epoch_at k.rows n → IsOne n m → Allows (Holds M k first) slots id m i (λ y. y) (epoch_told m)
-  reads_at k first slots id m n i at one = subst (λ (j : ℕ). Allows (Holds M k first) slots id m j (λ y. y) (epoch_told m)) (sym at) (reads_epoch k first slots id m n one)
+  pub reads_at : (k : Layout) (first : B) (slots id : ℕ) (m : Seat R B E) (n i : ℕ) → i ≡ epoch_at k.rows n → IsOne n m → Allows (Holds M k first) slots id m i (λ y. y) (EpochTells m)
+  reads_at k first slots id m n i at one = subst (λ (j : ℕ). Allows (Holds M k first) slots id m j (λ y. y) (EpochTells m)) (sym at) (reads_epoch k first slots id m n one)

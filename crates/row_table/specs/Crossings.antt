@@ -1,6 +1,6 @@
 -- What enter and leave make of what a pass knows, and what they tell.
 --     entered, left      the pass after it entered, and after it left
---     cross_told, epoch_told      what a step on the own epoch word tells, and a load of it
+--     CrossTells, EpochTells      what a step on the own epoch word tells, and a load of it
 --     Enters      what an enter answers
 use Rattle.std.specs.Prelude.{◌≡◌, ℕ, ◌+◌, ◌<◌, ◌≤◌, ◌^◌, List, [], ◌∷◌, Option, None, Some, Result, Ok, Err}
 use Rattle.atomic_table.specs.Table.{Step}
@@ -16,11 +16,11 @@ module _ {R B E : Type 0} where
   abbrev pub left : PassView R B E → PassView R B E
   left v = record v { core = record v.core { stand = None }; epoch = v.epoch + 1 }
 
-  abbrev pub cross_told : (PassView R B E → PassView R B E) → Seat R B E → ℕ → Seat R B E → Type 0
-  cross_told f m n m' = (n ≡ (view m).epoch) × (m' ≡ (f (view m) ∷ [], m.1))
+  abbrev pub CrossTells : (PassView R B E → PassView R B E) → Seat R B E → ℕ → Seat R B E → Type 0
+  CrossTells f m n m' = (n ≡ (view m).epoch) × (m' ≡ (f (view m) ∷ [], m.1))
 
-  abbrev pub epoch_told : Seat R B E → ℕ → Seat R B E → Type 0
-  epoch_told m n m' = (p : ℕ) → (view m).number ≡ p → (n ≡ (view m).epoch) × (n ≤ 2 ^ 62) × (m' ≡ m)
+  abbrev pub EpochTells : Seat R B E → ℕ → Seat R B E → Type 0
+  EpochTells m n m' = (p : ℕ) → (view m).number ≡ p → (n ≡ (view m).epoch) × (n ≤ 2 ^ 62) × (m' ≡ m)
 
   -- an epoch word at its end is worn
   abbrev pub Enters : PassView R B E → Result (Unit {0}) Worn → PassView R B E → Type 0

@@ -17,25 +17,25 @@ const LAST: u64 = 1 << 62;
 pub struct ReadEpoch;
 
 impl<R: Drop, B: Drop, E> Play<Option<Content<R, B>>, LinkedList<PassView<R, B, E>>> for ReadEpoch {
-    ghost use Rattle.row_table.specs.Crossings.{epoch_told};
+    ghost use Rattle.row_table.specs.Crossings.{EpochTells};
 
-    ghost then = { λ _. epoch_told };
+    ghost then = { λ _. EpochTells };
 }
 
 pub struct Enter;
 
 impl<R: Drop, B: Drop, E> Play<Option<Content<R, B>>, LinkedList<PassView<R, B, E>>> for Enter {
-    ghost use Rattle.row_table.specs.Crossings.{cross_told, entered};
+    ghost use Rattle.row_table.specs.Crossings.{CrossTells, entered};
 
-    ghost then = { λ _. cross_told entered };
+    ghost then = { λ _. CrossTells entered };
 }
 
 pub struct Leave;
 
 impl<R: Drop, B: Drop, E> Play<Option<Content<R, B>>, LinkedList<PassView<R, B, E>>> for Leave {
-    ghost use Rattle.row_table.specs.Crossings.{cross_told, left};
+    ghost use Rattle.row_table.specs.Crossings.{CrossTells, left};
 
-    ghost then = { λ _. cross_told left };
+    ghost then = { λ _. CrossTells left };
 }
 
 impl<P: Plan> Pass<P> {
