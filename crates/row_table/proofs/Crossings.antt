@@ -1,24 +1,18 @@
 -- Enter and leave keep the rule.
-use Rattle.std.proofs.Common.{◌≡◌, ◌≢◌, ℕ, ◌+◌, ◌*◌, ◌%◌, ◌^◌, ◌<◌, ◌≤◌, List, [], ◌∷◌, length, get_or, set, sym, refl, ap, ◌∙◌, subst, ⊎_elim, arith, get_or-set_other, get_or-set_same, Option, Some, None, IsSome}
-use Rattle.std.specs.List.{Contains}
-use mathlib.Core.Option.{some, none}
+use Rattle.std.proofs.Common.{◌≡◌, ◌≢◌, ℕ, ◌+◌, ◌%◌, ◌^◌, ◌<◌, ◌≤◌, List, [], ◌∷◌, length, get_or, set, sym, refl, ap, ◌∙◌, subst, arith, get_or-set_other, get_or-set_same, None, IsSome}
+use mathlib.Core.Option.{some}
 use lib.ListN.{get_elem?}
-use lib.Seq.{set-get_or}
-use Rattle.atomic_table.specs.Table.{Allows, step, keeps}
+use Rattle.atomic_table.specs.Table.{Allows, keeps}
 use Rattle.walk_core.specs.declared.event.Event.{Event}
 use Rattle.walk_core.specs.declared.event.Event.TheVariants.{Enter, Leave}
-use Rattle.walk_core.specs.declared.pass.PassCore.{PassCore}
-use Rattle.walk_core.specs.declared.pass.Stand.{Stand}
 use Rattle.walk_core.specs.Words.{lock_at, epoch_at, book_at}
-use Rattle.walk_core.specs.Core.{Core}
 use Rattle.walk_core.specs.Events.{place_of, number_after, pass_after, pass_of, free_after, limbo_after}
 use Rattle.walk_core.specs.Guards.{Guard}
 use Rattle.row_layout.specs.declared.places.Layout.{Layout}
 use Rattle.row_table.specs.declared.view.PassView.{PassView}
-use Rattle.row_table.specs.declared.plan.Content.TheVariants.{Row, Book}
 use Rattle.row_table.specs.Plan.{Meaning}
-use Rattle.row_table.specs.Rows.{row_words, place_at, lock_of, generation_of}
-use Rattle.row_table.specs.Rule.{Homes, Seat, Table, levels, view, IsOne, core_of, Contents, IsHeldRow, Knows, Holds}
+use Rattle.row_table.specs.Rows.{lock_of, generation_of}
+use Rattle.row_table.specs.Rule.{Homes, Seat, Table, levels, view, IsOne, core_of, Contents, Knows, Holds}
 use Rattle.row_table.specs.Crossings.{entered, left, CrossTells, EpochTells}
 use Rattle.row_table.proofs.Shown.{ShowsSame, shows_same}
 use Rattle.row_table.proofs.Frames.{RowHome, words_after, moved, unchanged, home_of, home_moves}

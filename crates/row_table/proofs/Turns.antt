@@ -38,7 +38,7 @@ use Rattle.row_table.specs.Moves.{NotInHand}
 use Rattle.row_table.specs.Books.{given, region, swept_rows, taken_rows, give_of, MayGive, turned, waited, hand_rows, gave, Learns, TurnSays, TurnTells, GiveSays, GiveTells}
 use Rattle.row_table.proofs.Told.{same_front}
 use Rattle.row_table.proofs.Shown.{ShowSame, book_shows}
-use Rattle.row_table.proofs.Frames.{moved, moved_here, knows_shown, unchanged, contents_booked}
+use Rattle.row_table.proofs.Frames.{moved, moved_here, knows_shown, contents_booked}
 use Rattle.row_table.proofs.Views.{head_or_later, pass_is, knows_it, is_linked, held_of_row, has_held}
 use Rattle.row_table.proofs.Regions.{untouched}
 

@@ -2,12 +2,11 @@
 --     entered, left      the pass after it entered, and after it left
 --     CrossTells, EpochTells      what a step on the own epoch word tells, and a load of it
 --     Enters      what an enter answers
-use Rattle.std.specs.Prelude.{◌≡◌, ℕ, ◌+◌, ◌<◌, ◌≤◌, ◌^◌, List, [], ◌∷◌, Option, None, Some, Result, Ok, Err}
-use Rattle.atomic_table.specs.Table.{Step}
+use Rattle.std.specs.Prelude.{◌≡◌, ℕ, ◌+◌, ◌<◌, ◌≤◌, ◌^◌, [], ◌∷◌, None, Some, Result, Ok, Err}
 use Rattle.walk_core.specs.Events.{top}
 use Rattle.row_table.specs.declared.answers.Worn.{Worn}
 use Rattle.row_table.specs.declared.view.PassView.{PassView}
-use Rattle.row_table.specs.Rule.{Slot, Seat, view}
+use Rattle.row_table.specs.Rule.{Seat, view}
 
 module _ {R B E : Type 0} where
   abbrev pub entered : PassView R B E → PassView R B E

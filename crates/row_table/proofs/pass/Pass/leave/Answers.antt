@@ -1,8 +1,8 @@
-use Rattle.std.proofs.Common.{◌≡◌, rules, arith, ℕ, ◌+◌, List, [], ◌∷◌, sym, ap, ◌∙◌, subst}
+use Rattle.std.proofs.Common.{rules, arith, [], ◌∷◌, sym, ap, ◌∙◌}
 use Rattle.walk_core.specs.Words.{epoch_at}
 use Rattle.row_layout.specs.declared.places.Layout.{Layout}
 use Rattle.row_table.specs.declared.view.PassView.{PassView}
-use Rattle.row_table.specs.Rule.{Seat, view}
+use Rattle.row_table.specs.Rule.{view}
 use Rattle.row_table.specs.Crossings.{left}
 use Rattle.row_table.proofs.Crossings.{leaves_at}
 use Rattle.row_table.proofs.Told.{Kept, kept_by, view_of}

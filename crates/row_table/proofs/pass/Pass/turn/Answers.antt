@@ -3,7 +3,7 @@ use Rattle.walk_core.specs.Lists.{times}
 use Rattle.walk_core.specs.Words.{book_at}
 use Rattle.row_layout.specs.declared.places.Layout.{Layout}
 use Rattle.row_table.specs.declared.view.PassView.{PassView}
-use Rattle.row_table.specs.Rule.{Seat, view}
+use Rattle.row_table.specs.Rule.{view}
 use Rattle.row_table.specs.Books.{turned, waited, Learns}
 use Rattle.row_table.proofs.Turns.{turns_at}
 use Rattle.row_table.proofs.Told.{Kept, kept_by, view_of, front_of, swapped, book_came_out, room_left, no_book, carries_book}
