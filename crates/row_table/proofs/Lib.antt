@@ -11,3 +11,4 @@ pub mod Turns
 pub mod End
 pub mod Tally
 pub mod Crossings
+pub mod Looks

@@ -5,6 +5,7 @@ pub mod Moves
 pub mod Stack
 pub mod Books
 pub mod Crossings
+pub mod Looks
 pub mod Calls
 pub mod Rooms
 pub mod Close

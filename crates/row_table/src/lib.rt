@@ -5,6 +5,7 @@ mod answers;
 mod boot;
 mod close;
 mod crossing;
+mod looking;
 mod pass;
 mod plan;
 mod rooms;

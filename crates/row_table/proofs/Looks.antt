@@ -1,0 +1,71 @@
+-- Look keeps the rule.
+use Rattle.std.proofs.Common.{◌≡◌, ℕ, ◌<◌, List, [], ◌∷◌, get_or, set, sym, refl, ap, ◌∙◌, subst, arith}
+use mathlib.Core.Option.{some, none}
+use lib.ListN.{get_elem?}
+use lib.Seq.{set-get_or}
+use Rattle.atomic_table.specs.Table.{Allows, step, keeps}
+use Rattle.walk_core.specs.declared.event.Event.TheVariants.{Look}
+use Rattle.walk_core.specs.declared.pass.PassCore.{PassCore}
+use Rattle.walk_core.specs.Words.{entry_at}
+use Rattle.row_layout.specs.declared.places.Layout.{Layout}
+use Rattle.row_table.specs.declared.view.PassView.{PassView}
+use Rattle.row_table.specs.Plan.{Meaning}
+use Rattle.row_table.specs.Rows.{place_at, generation_of}
+use Rattle.row_table.specs.Rule.{Seat, Table, view, IsOne, Contents, Knows, Holds}
+use Rattle.row_table.specs.Looks.{looked_at, Reads, LookSays, LookTells, MayLook}
+use Rattle.row_table.proofs.Shown.{word_at}
+use Rattle.row_table.proofs.Frames.{moved}
+use Rattle.row_table.proofs.Views.{pass_is}
+
+module _ {R B E : Type 0} (M : Meaning R B E) where
+  read_is : (k : Layout) (first : B) (s : Table R B E) (h : Holds M k first s) (v : PassView R B E) → get_elem? h.passes v.number ≡ some v → (r i : ℕ) → i < 512 → Reads v r i (get_or s.words (entry_at r i) 0)
+  read_is k first s h v mine r i inside =
+      let know = h.knows v.number v mine in record {
+        place = place_at s.words r;
+        stands = λ t is same. let stand = h.good.stands.stand v.number t (ap (λ (u : PassCore). u.stand) (pass_is M k first s h v mine) ∙ is) in ap (place_at s.words) (sym same) ∙ stand.place;
+        holds = λ x j same. let o = know.rows x j in (
+          ap (place_at s.words) (sym same) ∙ o.place,
+          ap (λ (q : ℕ). get_or s.words (entry_at q i) 0) (sym same) ∙ (sym (word_at s.words x.row i inside) ∙ ap (λ (ws : List ℕ). get_or ws i 0) o.shown),
+        );
+      }
+
+  pub looks : (k : Layout) (first : B) (slots id : ℕ) (m : Seat R B E) (n r i : ℕ) → IsOne n m → i < 512 → MayLook (view m) r
+      → Allows (Holds M k first) slots id m (entry_at r i) (λ y. y) (LookTells (step slots (entry_at r i) 0 0 none) m)
+  looks k first slots id m n r i one inside may s h long me _ =
+      let v : PassView R B E = view m in
+      let me' : get_elem? s.views id ≡ some (v ∷ []) = me ∙ ap some one.0 in
+      let mine : get_elem? h.passes v.number ≡ some v = (h.seats id (v ∷ []) me' 0 v refl).0 in
+      let know = h.knows v.number v mine in
+      let found : ℕ = get_or s.words (entry_at r i) 0 in
+      let reads : Reads v r i found = read_is k first s h v mine r i inside in
+      let w : PassView R B E = looked_at v r reads.place i found in
+      let path : set s.words (entry_at r i) found ≡ s.words = set-get_or s.words (entry_at r i) 0 in
+      let knows : Knows M k first s.words h.book w = record {
+        there = know.there;
+        epoch = know.epoch;
+        held = know.held;
+        rows = λ y j. let o = know.rows y j in record { there = o.there; shown = o.shown; place = o.place; agrees = o.agrees };
+        granted = know.granted;
+        hand = know.hand;
+        found = know.found;
+        origin = know.origin;
+        seen = know.seen;
+        mine = know.mine;
+      } in (
+        w ∷ [],
+        keeps,
+        tt,
+        moved M k first s h id v w (Look n r i) h.book s.homes me' (sym one.1) refl (inside, may) refl h.same_free refl refl
+            (subst (λ (us : List ℕ). Contents M k us h.book s.homes) (sym path) h.contents)
+            (λ q less. subst (λ (us : List ℕ). generation_of us q < M.next_generation h.book) (sym path) (h.generations q less))
+            h.fixed
+            (subst (λ (us : List ℕ). Knows M k first us h.book w) (sym path) knows)
+            (λ p u ne at. subst (λ (us : List ℕ). Knows M k first us h.book u) (sym path) (h.knows p u at)),
+        λ row index low same. let e : r ≡ row = omega arith in let f : i ≡ index = omega arith in
+            subst (λ (x : ℕ). LookSays m found (w ∷ [], m.1) x index) e (subst (LookSays m found (w ∷ [], m.1) r) f (reads, refl)),
+      )
+
+  -- the same where the place is known by an equation
+  pub looks_at : (k : Layout) (first : B) (slots id : ℕ) (m : Seat R B E) (n r i place : ℕ) → place ≡ entry_at r i → IsOne n m → i < 512 → MayLook (view m) r
+      → Allows (Holds M k first) slots id m place (λ y. y) (LookTells (step slots place 0 0 none) m)
+  looks_at k first slots id m n r i place at one inside may = subst (λ (j : ℕ). Allows (Holds M k first) slots id m j (λ y. y) (LookTells (step slots j 0 0 none) m)) (sym at) (looks k first slots id m n r i one inside may)
