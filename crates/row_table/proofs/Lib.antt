@@ -12,3 +12,4 @@ pub mod End
 pub mod Tally
 pub mod Crossings
 pub mod Looks
+pub mod Marks

@@ -73,7 +73,7 @@ module _ {R B E : Type 0} (M : Meaning R B E) where
       }
 
   -- what a pass that holds one row less knows
-  holds_less : (k : Layout) (first : B) (ws us : List ℕ) (b : B) (v : PassView R B E) (r : ℕ) → ShowSame k ws us → Knows M k first ws b v → Knows M k first us b (released v r)
+  pub holds_less : (k : Layout) (first : B) (ws us : List ℕ) (b : B) (v : PassView R B E) (r : ℕ) → ShowSame k ws us → Knows M k first ws b v → Knows M k first us b (released v r)
   holds_less k first ws us b v r shows old =
       let now = knows_shown M k first ws us b v shows old in record {
         there = now.there;

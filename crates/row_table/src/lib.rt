@@ -6,6 +6,7 @@ mod boot;
 mod close;
 mod crossing;
 mod looking;
+mod marking;
 mod pass;
 mod plan;
 mod rooms;
