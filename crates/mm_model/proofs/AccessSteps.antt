@@ -90,7 +90,7 @@ same_tables given_up none wanted no_more tables =
     and_true true = refl
     and_true false = refl
 
-no_need : (wanted : List Place) → wanted ≡ [] → (tables : Tables) → need wanted tables ≡ 0
+pub no_need : (wanted : List Place) → wanted ≡ [] → (tables : Tables) → need wanted tables ≡ 0
 no_need wanted none tables = ap (λ w. set.len (set.difference (set.from_list w) tables)) none ∙ ap set.len (difference_empty place_total place_exact tables) ∙ len-empty place_cmp
 
 module _ {X : Type 0} (p q : X → Bool) (m : FinMap nat_cmp X) (low : ℕ) (same : (k : ℕ) (x : X) → get m k ≡ Some x → p x ≡ q x) where

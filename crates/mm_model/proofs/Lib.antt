@@ -8,3 +8,5 @@ pub mod Carried
 pub mod AccessSteps
 pub mod AccessCalls
 pub mod Full
+pub mod OpSteps
+pub mod OpCalls

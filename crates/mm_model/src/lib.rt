@@ -3,6 +3,7 @@
 
 mod accesses;
 mod mapping;
+mod operations;
 mod plain;
 mod step;
 
