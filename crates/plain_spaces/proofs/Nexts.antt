@@ -46,3 +46,20 @@ module _ {X : Type 0} (m : FinMap nat_cmp X) (first count : ℕ) where
 
   pub is_no_next : ((q : ℕ) → first ≤ q → q < first + count → get m q ≡ None) → least first count (λ q. is_some (get m q)) ≡ None
   is_no_next none = least_none has first count (λ q low high. ap is_some (none q low high))
+
+  abbrev lacks : ℕ → Bool
+  lacks q = is_none (get m q)
+
+  is_lacking : (q : ℕ) → get m q ≡ None → is_none (get m q) ≡ true
+  is_lacking q e = ap is_none e
+
+  is_having : (o : Option X) → IsSome o → is_none o ≡ false
+  is_having (Some x) h = refl
+  is_having None h = absurd (true≢false (sym h))
+
+  -- where each page before it has a cell
+  pub is_hole : (page : ℕ) → first ≤ page → page < first + count → get m page ≡ None → ((q : ℕ) → first ≤ q → q < page → IsSome (get m q)) → least first count (λ q. is_none (get m q)) ≡ Some page
+  is_hole page a b here before = least_is lacks first count page a b (is_lacking page here) (λ q low high. is_having (get m q) (before q low high))
+
+  pub is_no_hole : ((q : ℕ) → first ≤ q → q < first + count → IsSome (get m q)) → least first count (λ q. is_none (get m q)) ≡ None
+  is_no_hole all = least_none lacks first count (λ q low high. is_having (get m q) (all q low high))

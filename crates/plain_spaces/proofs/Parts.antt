@@ -8,6 +8,7 @@ use Rattle.std.specs.FinMap.{FinMap, get}
 use Rattle.table_place.specs.Range.{within}
 use Rattle.page_map.specs.Change.{change}
 use Rattle.page_map.proofs.Range.{get-change, change_is, change_none, inside, outside}
+use Rattle.plain_spaces.proofs.Moves.{change_one}
 
 module _ {X : Type 0} (m : FinMap nat_cmp X) (first : ℕ) (f : ℕ → Option X → Option X) where
   -- no part
@@ -59,3 +60,7 @@ module _ {X : Type 0} (m : FinMap nat_cmp X) (first : ℕ) (f : ℕ → Option X
             low_from : (q < next) ⊎ (next ≤ q) → next ≤ q
             low_from (inl before) = absurd (outside first (next - first) q ec (inside first (next + 1 - first) q ed).0 (omega (arith, before, low, (inside first (next + 1 - first) q ed).0)))
             low_from (inr after) = after
+
+-- a range of one key, where the change depends on the key
+pub one_key : {X : Type 0} (m : FinMap nat_cmp X) (k : ℕ) (f : ℕ → Option X → Option X) → change m k 1 (λ _. f k) ≡ change m k 1 f
+one_key m k f = change_one m k (λ _. f k) ∙ sym (change_one m k f)

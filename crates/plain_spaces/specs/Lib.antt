@@ -5,3 +5,4 @@ pub mod Wants
 pub mod Backing
 pub mod Levels
 pub mod Fronts
+pub mod NewPages

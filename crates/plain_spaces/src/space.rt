@@ -54,7 +54,7 @@ fn next_page(cells: &BTreeMap<u64, Cell>, first: u64, end: u64) -> Option<u64>
 }
 
 /// The cell of the page that stands so many pages after the first of a new mapping.
-fn new_cell(backing: Backing, perm: Perm, place: u64) -> Cell
+pub(crate) fn new_cell(backing: Backing, perm: Perm, place: u64) -> Cell
     requires { index_of backing + place < 2 ^ 64 }
     ensures { result ≡ backed backing perm place }
 {
@@ -212,6 +212,31 @@ impl AddressSpace {
             Some((page, _)) => Some(*page),
             None => None,
         }
+    }
+
+    /// The least page of a range that has no cell. The search ends there.
+    pub fn hole(&self, first: u64, count: u64) -> Option<u64>
+        requires { first + count < 2 ^ 64 }
+        ensures { result ≡ least first count (λ page. is_none (map.get self.now page)) }
+    {
+        let end = first + count;
+        let mut next = first;
+        for (page, _) in self.cells.range(first..end) {
+            if *page > next {
+                return Some(next);
+            }
+            next = *page + 1;
+        }
+        if next < end { Some(next) } else { None }
+    }
+
+    /// Puts a cell at a page.
+    pub(crate) fn insert(&mut self, page: u64, cell: Cell) -> Result<(), AllocError>
+        ensures ok { OnOk result (self.new ≡ map.insert self.old page cell) }
+        ensures err { OnErr result (self.new ≡ self.old) }
+    {
+        self.cells.insert(page, cell)?;
+        Ok(())
     }
 
     /// Takes out the cell of a page.

@@ -26,4 +26,4 @@ pub returns-in-None : goal.returns-in-None
 returns-in-None c =
     let at = (goal.at.returns-in-None c).After-next in
     sym (is_no_next c.args.self.now c.args.first (c.args.end - c.args.first) (λ q a b.
-        none_left _ _ _ _ c.in-None.ensures.steps.0 (has at) (in_order at) q a (omega (arith, a, b, c.requires))))
+    none_left _ _ _ _ c.in-None.ensures.steps.0 (has at) (in_order at) q a (omega (arith, a, b, c.requires))))
