@@ -12,6 +12,9 @@ mod state;
 mod steps;
 mod words;
 
+#[cfg(test)]
+mod tests;
+
 pub use event::{Event, SetPart};
 pub use laws::every_core_is_good;
 pub use lists::{PutList, PutRow, RowList};
