@@ -10,10 +10,9 @@ mod pass;
 mod room;
 mod state;
 mod steps;
-mod words;
-
 #[cfg(test)]
 mod tests;
+mod words;
 
 pub use event::{Event, SetPart};
 pub use laws::every_core_is_good;
