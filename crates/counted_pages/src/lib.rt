@@ -38,6 +38,14 @@ impl PageRef {
         self.number
     }
 
+    /// The bytes.
+    pub fn bytes(&self) -> &[u8]
+        ensures value { result.now ≡ self.now.body.bytes }
+        ensures whole { length self.now.body.bytes ≡ 4096 }
+    {
+        self.body.bytes()
+    }
+
     /// Copies the bytes from a place on. It takes no memory.
     pub fn read_at(&self, place: u32, out: &mut [u8])
         requires { place + length out.old ≤ 4096 }
