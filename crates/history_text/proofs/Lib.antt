@@ -1,0 +1,4 @@
+pub mod CountLines
+pub mod Names
+pub mod OneEntry
+pub mod OneReply
