@@ -1,22 +1,21 @@
 -- Lines of three numbers, each behind its word, and the lines of limits.
-use Rattle.std.proofs.Common.{◌≡◌, ◌≢◌, ℕ, ◌<◌, ◌≤◌, ◌^◌, true, false, not, eqb, ltb, eq-eqb, List, [], ◌∷◌, ◌++◌, codes, refl, sym, ap, subst, ◌∙◌, arith}
+use Rattle.std.proofs.Common.{◌≡◌, ◌≢◌, ℕ, ◌<◌, ◌≤◌, true, not, eqb, ltb, eq-eqb, List, [], ◌∷◌, codes, refl, sym, ap, subst, ◌∙◌, arith}
 use Rattle.std.specs.List.{All, list_all}
-use Rattle.std.specs.Fmt.{digit_glyph}
 use Rattle.std.proofs.lemmas.Bool.{and_parts, false≢true}
 use Rattle.std.proofs.lemmas.Bool.Decides.{nat_tests}
 use Rattle.std.proofs.lemmas.List.Elements.{All-nil, All-cons, All-head, All-tail}
 use Rattle.corten_base.specs.declared.calls.Entry.{Entry}
 use Rattle.corten_base.specs.declared.numbers.Limits.{Limits}
-use Rattle.text_words.specs.Layout.{HasNo, IsWord, IsLine, joined, words_of}
+use Rattle.text_words.specs.Layout.{HasNo, IsLine, joined, words_of}
 use Rattle.text_words.specs.Spelling.{number}
 use Rattle.text_words.proofs.OneValue.{number_injective}
 use Rattle.text_words.proofs.SpelledBytes.{IsNoDigit, IsNoDigit-below, HasNo-number, HasNo-joined}
 use Rattle.text_words.proofs.WordLists.{joined-words_of, words_of-joined}
-use Rattle.mm_script.specs.ScriptText.{limit_words, limit_lines, AreLimits}
+use Rattle.mm_script.specs.ScriptText.{limit_words, AreLimits}
 use Rattle.mm_script.proofs.OneCall.{HasNo_letters}
 use Rattle.history_text.specs.declared.counts.Counts.{Counts}
 use Rattle.history_text.specs.Replies.{IsCount}
-use Rattle.history_text.specs.Accounting.{version_line, header_lines, counts_words, frames_line, swap_line, tables_line, AreCounts}
+use Rattle.history_text.specs.Accounting.{version_line, header_lines, counts_words, frames_line, AreCounts}
 use Rattle.history_text.specs.HistoryText.{entry_line, entry_words, IsEntry}
 use Rattle.history_text.proofs.OneEntry.{words_of-entry_line}
 

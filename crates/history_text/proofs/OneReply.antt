@@ -41,7 +41,7 @@ one_ok _ x y ha hb same = absurd hb
 
 one_at : (at : ℕ) (b : Reply) (x y : List (List ℕ)) → IsReply (reply.At at) → IsReply b → reply_words (reply.At at) ++ x ≡ reply_words b ++ y → SameReply (reply.At at) b x y
 one_at at reply.Ok x y ha hb same = absurd (other_word (codes "at") (codes "ok") _ _ refl same)
-one_at at (reply.At at') x y ha hb same = 
+one_at at (reply.At at') x y ha hb same =
     let places : at ≡ at' = address_injective at at' ha hb (cc) in
     record { replies = ap reply.At places; rest = cc }
 one_at at (reply.Bytes bytes') x y ha hb same = absurd (other_word (codes "at") (codes "bytes") _ _ refl same)
@@ -55,7 +55,7 @@ one_at at _ x y ha hb same = absurd hb
 one_bytes : (bytes : List ℕ) (b : Reply) (x y : List (List ℕ)) → IsReply (reply.Bytes bytes) → IsReply b → reply_words (reply.Bytes bytes) ++ x ≡ reply_words b ++ y → SameReply (reply.Bytes bytes) b x y
 one_bytes bytes reply.Ok x y ha hb same = absurd (other_word (codes "bytes") (codes "ok") _ _ refl same)
 one_bytes bytes (reply.At at') x y ha hb same = absurd (other_word (codes "bytes") (codes "at") _ _ refl same)
-one_bytes bytes (reply.Bytes bytes') x y ha hb same = 
+one_bytes bytes (reply.Bytes bytes') x y ha hb same =
     let all : bytes ≡ bytes' = hex_injective bytes bytes' ha.1 hb.1 (cc) in
     record { replies = ap reply.Bytes all; rest = cc }
 one_bytes bytes reply.Einval x y ha hb same = absurd (other_word (codes "bytes") (codes "einval") _ _ refl same)
@@ -93,7 +93,7 @@ one_segv at (reply.At at') x y ha hb same = absurd (other_word (codes "segv") (c
 one_segv at (reply.Bytes bytes') x y ha hb same = absurd (other_word (codes "segv") (codes "bytes") _ _ refl same)
 one_segv at reply.Einval x y ha hb same = absurd (other_word (codes "segv") (codes "einval") _ _ refl same)
 one_segv at reply.NoRoom x y ha hb same = absurd (other_word (codes "segv") (codes "noroom") _ _ refl same)
-one_segv at (reply.Segv at') x y ha hb same = 
+one_segv at (reply.Segv at') x y ha hb same =
     let places : at ≡ at' = address_injective at at' ha hb (cc) in
     record { replies = ap reply.Segv places; rest = cc }
 one_segv at (reply.NoTables linked' limbo' need') x y ha hb same = absurd (other_word (codes "segv") (codes "notables") _ _ refl same)
@@ -107,7 +107,7 @@ one_notables linked limbo need (reply.Bytes bytes') x y ha hb same = absurd (oth
 one_notables linked limbo need reply.Einval x y ha hb same = absurd (other_word (codes "notables") (codes "einval") _ _ refl same)
 one_notables linked limbo need reply.NoRoom x y ha hb same = absurd (other_word (codes "notables") (codes "noroom") _ _ refl same)
 one_notables linked limbo need (reply.Segv at') x y ha hb same = absurd (other_word (codes "notables") (codes "segv") _ _ refl same)
-one_notables linked limbo need (reply.NoTables linked' limbo' need') x y ha hb same = 
+one_notables linked limbo need (reply.NoTables linked' limbo' need') x y ha hb same =
     let links : linked ≡ linked' = same_count linked linked' ha.0 hb.0 (cc) in
     let limbos : limbo ≡ limbo' = same_count limbo limbo' ha.1 hb.1 (cc) in
     let needs : need ≡ need' = number_injective need need' ha.2 hb.2 (cc) in
@@ -123,7 +123,7 @@ one_noframes free need reply.Einval x y ha hb same = absurd (other_word (codes "
 one_noframes free need reply.NoRoom x y ha hb same = absurd (other_word (codes "noframes") (codes "noroom") _ _ refl same)
 one_noframes free need (reply.Segv at') x y ha hb same = absurd (other_word (codes "noframes") (codes "segv") _ _ refl same)
 one_noframes free need (reply.NoTables linked' limbo' need') x y ha hb same = absurd (other_word (codes "noframes") (codes "notables") _ _ refl same)
-one_noframes free need (reply.NoFrames free' need') x y ha hb same = 
+one_noframes free need (reply.NoFrames free' need') x y ha hb same =
     let frees : free ≡ free' = same_count free free' ha.0 hb.0 (cc) in
     let needs : need ≡ need' = same_count need need' ha.1 hb.1 (cc) in
     record { replies = λ i. reply.NoFrames (frees i) (needs i); rest = cc }

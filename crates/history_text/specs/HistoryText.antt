@@ -1,5 +1,6 @@
 -- History texts.
 --     answer_words, answer_line, entry_line      an answered call's words, and its line
+--     lines_of      the lines of entries
 --     history_lines, history_text      the lines of a history, and its text
 --     IsEntry, HasText      the bounds of an answered call, and of a history, that has a line or a text
 --     IsHistoryText      bytes that are the text of a history
@@ -30,6 +31,10 @@ entry_words e = answer_words e.thread e.call e.reply
 
 abbrev pub entry_line : Entry → List ℕ
 entry_line e = joined (entry_words e)
+
+-- the lines of entries, as text
+abbrev pub lines_of : List Entry → List ℕ
+lines_of entries = text (map entry_line entries)
 
 abbrev pub history_lines : History → List (List ℕ)
 history_lines h = header_lines h.limits ++ (map entry_line h.entries ++ account_lines h.accounts)

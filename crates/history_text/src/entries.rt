@@ -80,9 +80,5 @@ pub fn read_entry(alloc: Global, line: &[u8]) -> Result<Option<Entry>, AllocErro
 {
     let mut words = Words::of(line);
     let entry = next_entry(alloc, &mut words)?;
-    if words.is_done() {
-        Ok(entry)
-    } else {
-        Ok(None)
-    }
+    if words.is_done() { Ok(entry) } else { Ok(None) }
 }

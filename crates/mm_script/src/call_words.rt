@@ -100,10 +100,7 @@ fn is_access_long(word: &[u8]) -> bool
 }
 
 /// The bytes of an access, which the next word spells.
-pub fn next_bytes(
-    alloc: Global,
-    words: &mut Words<'_>,
-) -> Result<Option<ByteList>, AllocError>
+pub fn next_bytes(alloc: Global, words: &mut Words<'_>) -> Result<Option<ByteList>, AllocError>
     ensures found { IfOk result (λ read. IfSome read (λ bytes.
         IsAccess (length bytes) × All (λ b. b < 256) bytes × (words.old ≡ hex bytes ∷ words.new))) }
     ensures none { IfOk result (λ read. IfNone read ((bytes : List ℕ) (rest : List (List ℕ)) →

@@ -1,6 +1,8 @@
 -- From one place in a text to another, where no line is skipped.
-use Rattle.std.proofs.Common.{◌≡◌, ◌≢◌, ℕ, ◌+◌, List, [], ◌∷◌, ◌++◌, length, refl, sym, ap, subst, ◌∙◌, arith}
+use Rattle.std.proofs.Common.{◌≡◌, ◌≢◌, ℕ, ◌+◌, Bool, true, false, eqb, eq-eqb, List, [], ◌∷◌, ◌++◌, length, refl, sym, ap, subst, ◌∙◌, arith}
 use Rattle.std.specs.List.{All}
+use Rattle.std.proofs.lemmas.Bool.{false≢true}
+use Rattle.std.proofs.lemmas.Bool.Decides.{nat_tests}
 use Rattle.std.proofs.lemmas.List.{append_assoc, append-nil, length-append}
 use Rattle.std.proofs.lemmas.List.Elements.{All-nil, All-cons, All-head, All-append}
 use Rattle.text_words.specs.Layout.{IsLine, ended, text, TextRest}
@@ -82,9 +84,28 @@ FaultFrom-next G old before n P (NoLine.other new line next counted differs) beg
 FaultFrom-next G old before n P (NoLine.none is_line counted) begun ends wanting =
     subst (FaultFrom G old before) (sym counted) (fault_at_end G old before is_line begun wanting)
 
--- bytes that are left behind the last line
-pub fault_behind : (G : List (List ℕ) → Type 0) (old : TextRest) (before : List (List ℕ)) → old.bytes ≢ [] → IsLine old.bytes → Begins G before → FaultFrom G old before (old.taken + 1)
-fault_behind G old before some is_line begun =
+-- the first line of bytes, or that they have no newline
+pub data FirstOf (bytes : List ℕ) : Type 0 where
+  ended_line : (line more : List ℕ) → IsLine line → bytes ≡ ended line ++ more → FirstOf bytes
+  unended : IsLine bytes → FirstOf bytes
+
+longer_line : (b : ℕ) (bytes : List ℕ) → b ≢ 10 → FirstOf bytes → FirstOf (b ∷ bytes)
+longer_line b bytes other (FirstOf.ended_line line more is_line parted) = FirstOf.ended_line (b ∷ line) more (All-cons (λ c. c ≢ 10) b line other is_line) (ap (λ bs. b ∷ bs) parted)
+longer_line b bytes other (FirstOf.unended is_line) = FirstOf.unended (All-cons (λ c. c ≢ 10) b bytes other is_line)
+
+first_step : (b : ℕ) (bytes : List ℕ) (t : Bool) → eqb b 10 ≡ t → FirstOf bytes → FirstOf (b ∷ bytes)
+first_step b bytes true is rest =
+    let newline : b ≡ 10 = grind (arith, nat_tests) in
+    FirstOf.ended_line [] bytes (All-nil (λ c. c ≢ 10)) (ap (λ c. c ∷ bytes) newline)
+first_step b bytes false is rest = longer_line b bytes (λ same. false≢true (sym is ∙ eq-eqb b 10 same)) rest
+
+first_of_bytes : (bytes : List ℕ) → FirstOf bytes
+first_of_bytes [] = FirstOf.unended (All-nil (λ c. c ≢ 10))
+first_of_bytes (b ∷ bytes) = first_step b bytes (eqb b 10) refl (first_of_bytes bytes)
+
+-- bytes that are left behind the last line of a text
+pub fault_after : (G : List (List ℕ) → Type 0) (old : TextRest) (before : List (List ℕ)) → old.bytes ≢ [] → Begins G before → ((line : List ℕ) → ¬ (Begins G (before ++ line ∷ []))) → FaultFrom G old before (old.taken + 1)
+fault_after G old before some begun ends =
     let same : before ++ [] ≡ before = append-nil before in
     record {
       between = [];
@@ -93,5 +114,9 @@ fault_behind G old before some is_line begun =
       parted = refl;
       counted = omega arith;
       begins = subst (Begins G) (sym same) begun;
-      fault = subst (λ ls. Fault G ls old.bytes) (sym same) (Fault.unfinished is_line some);
+      fault = subst (λ ls. Fault G ls old.bytes) (sym same) (why old.bytes some (first_of_bytes old.bytes));
     }
+  where
+    why : (rest : List ℕ) → rest ≢ [] → FirstOf rest → Fault G before rest
+    why rest nonempty (FirstOf.ended_line line more is_line parted) = Fault.outside line more is_line parted (ends line)
+    why rest nonempty (FirstOf.unended is_line) = Fault.unfinished is_line nonempty

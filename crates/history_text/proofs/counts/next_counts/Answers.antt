@@ -8,8 +8,7 @@ pub returns-in-Some-counts_of-clause-ok : goal.returns-in-Some-counts_of-clause-
 returns-in-Some-counts_of-clause-ok c =
     let old = c.args.lines.now in
     let new = c.next_line.new.self in
-    let line = c.in-Some.line.now in
-    (
+    let line = c.in-Some.line.now in (
       c.in-Some-counts_of.ensures.found.0,
       subst (λ l. Passes old new (l ∷ [])) (line_is line _ c.in-Some-counts_of.ensures.found.1)
           (Passes-line old new line c.in-Some.ensures.is_line c.in-Some.ensures.line c.in-Some.ensures.taken),
