@@ -1,5 +1,6 @@
-pub mod Replies
 pub mod Accounting
-pub mod Writing
-pub mod Outcomes
 pub mod HistoryText
+pub mod Outcomes
+pub mod Replies
+pub mod ReplyNames
+pub mod Writing

@@ -1,5 +1,5 @@
 -- The one word is `solo`.
-use Rattle.std.proofs.Common.{◌≡◌, ◌∙◌, List, [], ◌∷◌, ap, sym, codes}
+use Rattle.std.proofs.Common.{◌∙◌, [], ◌∷◌, ap, sym}
 use Rattle.std.specs.String.{string_bytes}
 use lib.Pointwise.{bytes_decides}
 use Rattle.corten_run.proofs.Single.{map_single}

@@ -1,5 +1,5 @@
 -- What was read to the end is what the source told.
-use Rattle.std.proofs.Common.{◌≡◌, List, [], ℕ, Some, subst}
+use Rattle.std.proofs.Common.{[], Some, subst}
 use Rattle.byte_streams.specs.Whole.{Ends}
 use Rattle.byte_streams.specs.declared.reading.ReadWhole.TheVariants.{All}
 use Rattle.corten_run.proofs.Told.{retold}

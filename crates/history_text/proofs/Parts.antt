@@ -1,11 +1,20 @@
 -- A text that goes on: what was passed on so far, and a part of what comes.
-use Rattle.std.proofs.Common.{◌≡◌, ℕ, ◌+◌, ◌≤◌, List, [], ◌++◌, Option, subst, refl, sym, ap, ◌∙◌, arith, append_assoc, append-nil, length, take}
-use Rattle.std.proofs.lemmas.List.{length-append, take-append-le}
+use Rattle.std.proofs.Common.{◌≡◌, ℕ, ◌+◌, ◌<◌, ◌≤◌, List, [], ◌∷◌, ◌++◌, Option, subst, refl, sym, ap, ◌∙◌, arith, append_assoc, append-nil, drop, get_or, length, map, take}
+use Rattle.std.proofs.lemmas.List.{drop_more, length-append, take-append-le}
 use Rattle.std.proofs.Math.Seq.{take-append-add, take-append_seam}
 use Rattle.std.specs.Io.KnownBytes.{append_known}
 use Rattle.byte_streams.specs.Streams.{HasWritten, HasWrittenPart}
-use Rattle.byte_streams.proofs.Known.{append_twice, append_nothing}
+use Rattle.byte_streams.proofs.Known.{append_twice, append_nothing, risen}
+use Rattle.corten_base.specs.declared.calls.Entry.{Entry}
+use Rattle.text_words.specs.Layout.{ended, text}
+use Rattle.text_words.proofs.LineLists.{text-append}
+use Rattle.history_text.specs.declared.history.History.{History}
+use Rattle.history_text.specs.Accounting.{header_lines, account_lines}
+use Rattle.history_text.specs.HistoryText.{entry_line, lines_of, history_text}
 use Rattle.history_text.specs.Writing.{PassedOn}
+use Rattle.history_text.specs.Outcomes.{IsWritten}
+use Rattle.history_text.specs.declared.writer.Written.{Written}
+use Rattle.history_text.specs.declared.writer.Written.TheVariants.{Whole, Failed, NoMemory}
 
 -- nothing was passed on yet
 pub passed_nothing : (held : Option (List ℕ)) (text : List ℕ) → PassedOn held held text text
@@ -67,3 +76,41 @@ passed_of_all held held1 held2 first done waiting more rest all waiting2 before 
   subst (λ t. PassedOn held held2 t waiting2) (append_assoc first done more) (passed_then held held1 held2 (first ++ done) waiting more waiting2 before after),
   append_assoc done more rest ∙ whole,
 )
+
+-- what waited, and the end of the text, were written
+pub finished : (held held1 held2 : Option (List ℕ)) (f f1 f2 : ℕ) (before waiting more all : List ℕ) (w : Written) → PassedOn held held1 before waiting → f ≤ f1 → f1 ≤ f2
+    → before ++ more ≡ all → IsWritten held1 held2 f1 f2 (waiting ++ more) w → IsWritten held held2 f f2 all w
+finished held held1 held2 f f1 f2 before waiting more all Whole passed a b whole written =
+    subst (HasWritten held held2) parts after
+  where
+    after : HasWritten held held2 (passed.0 ++ (waiting ++ more))
+    after = written ∙ ap (λ h. append_known h (waiting ++ more)) passed.2 ∙ append_twice held passed.0 (waiting ++ more)
+
+    parts : passed.0 ++ (waiting ++ more) ≡ all
+    parts = sym (ap (λ t. t ++ more) passed.1 ∙ append_assoc passed.0 waiting more) ∙ whole
+finished held held1 held2 f f1 f2 before waiting more all Failed passed a b whole written =
+    (subst (HasWrittenPart held held2) whole (part_then held held1 held2 before waiting more passed written.0), risen f f1 f2 a b written.1)
+finished held held1 held2 f f1 f2 before waiting more all NoMemory passed a b whole written =
+    subst (HasWrittenPart held held2) whole (part_then held held1 held2 before waiting more passed written)
+
+-- the elements that are left, one after another
+pub next_of : {X : Type 0} (xs : List X) (i : ℕ) (x : X) → i < length xs → x ≡ get_or xs i x → drop i xs ≡ x ∷ drop (i + 1) xs
+next_of xs i x inside is = drop_more xs i x inside ∙ ap (λ y. y ∷ drop (i + 1) xs) (sym is)
+
+-- the line of the next entry, and then those of the others
+pub next_entry_line : (left more : List Entry) (e : Entry) (done all : List ℕ) → left ≡ e ∷ more → done ++ lines_of left ≡ all → done ++ (ended (entry_line e) ++ lines_of more) ≡ all
+next_entry_line left more e done all is whole = ap (λ es. done ++ lines_of es) (sym is) ∙ whole
+
+-- a front of a text is a part of it
+pub part_of_text : (held held1 : Option (List ℕ)) (front end all : List ℕ) → front ++ end ≡ all → HasWrittenPart held held1 front → HasWrittenPart held held1 all
+part_of_text held held1 front end all whole part = subst (HasWrittenPart held held1) whole (part_more held held1 front end part)
+
+-- the header, the lines of the entries and those of the accounts are the text
+pub text_parts : (h : History) (none header : List ℕ) → none ≡ [] → header ≡ none ++ text (header_lines h.limits) → (header ++ lines_of h.entries) ++ text (account_lines h.accounts) ≡ history_text h
+text_parts h none header none_is header_is =
+    let first : List ℕ = text (header_lines h.limits) in
+    let last : List ℕ = text (account_lines h.accounts) in
+    ap (λ t. (t ++ lines_of h.entries) ++ last) (header_is ∙ ap (λ t. t ++ first) none_is)
+    ∙ append_assoc first (lines_of h.entries) last
+    ∙ ap (λ t. first ++ t) (sym (text-append (map entry_line h.entries) (account_lines h.accounts)))
+    ∙ sym (text-append (header_lines h.limits) (map entry_line h.entries ++ account_lines h.accounts))
