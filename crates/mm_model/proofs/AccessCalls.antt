@@ -15,15 +15,15 @@ use Rattle.page_map.specs.Effect.{state_after, answer}
 use Rattle.page_map.specs.Step.{step, refusal}
 use Rattle.page_map.proofs.Steps.{accepted, refused}
 use Rattle.page_map.proofs.StepKeeps.{step_keeps}
-use Rattle.mm_model.specs.Owners.{unused_of}
+use Rattle.plain_spaces.specs.Owners.{unused_of}
 use Rattle.mm_model.specs.Plain.{IsSound}
-use Rattle.mm_model.specs.Reach.{wanting, refused_in, IsWhole, IsCounted, Makes, Keeps}
+use Rattle.plain_spaces.specs.Reach.{wanting, refused_in, IsWhole, IsCounted, Makes, Keeps}
 use Rattle.mm_model.specs.Accesses.{Refuses, Accepts, answered}
-use Rattle.mm_model.specs.Wants.{refusal_of}
-use Rattle.mm_model.specs.declared.access.Stop.{Stop}
-use Rattle.mm_model.specs.declared.access.Stop.TheVariants.{Refused, NoMemory}
+use Rattle.plain_spaces.specs.Wants.{refusal_of}
+use Rattle.plain_spaces.specs.declared.access.Stop.{Stop}
+use Rattle.plain_spaces.specs.declared.access.Stop.TheVariants.{Refused, NoMemory}
 use Rattle.mm_model.proofs.Full.{still_full, cells_stay, change_stays}
-use Rattle.mm_model.proofs.Moves.{put_back}
+use Rattle.plain_spaces.proofs.Moves.{put_back}
 use Rattle.mm_model.proofs.Carried.{is_counted_in, counts_follow, cell_here}
 use Rattle.mm_model.proofs.AccessSteps.{IsAccess, refused_outside, refused_absent, decided_inside, after_is}
 

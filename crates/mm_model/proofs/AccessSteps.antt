@@ -27,10 +27,10 @@ use Rattle.page_map.specs.Step.{refusal, first_refusal, refused_unless, argument
 use Rattle.page_map.proofs.Keys.{keys_in_more, chosen}
 use Rattle.page_map.proofs.Places.{place_total, place_exact}
 use Rattle.page_map.proofs.Evaluate.{union_empty, alike, difference_empty}
-use Rattle.mm_model.specs.Owners.{unused_of}
+use Rattle.plain_spaces.specs.Owners.{unused_of}
 use Rattle.mm_model.specs.Plain.{owner_counts}
-use Rattle.mm_model.specs.Reach.{reaching, storing, wants, wanting, lack, refused_in}
-use Rattle.mm_model.proofs.Plans.{no_keys}
+use Rattle.plain_spaces.specs.Reach.{reaching, storing, wants, wanting, lack, refused_in}
+use Rattle.plain_spaces.proofs.Plans.{no_keys}
 use Rattle.mm_model.proofs.Counts.{unused_counts}
 use Rattle.mm_model.proofs.Carried.{counted_at}
 
@@ -90,7 +90,7 @@ same_tables given_up none wanted no_more tables =
     and_true true = refl
     and_true false = refl
 
-no_need : (wanted : List Place) → wanted ≡ [] → (tables : Tables) → need wanted tables ≡ 0
+pub no_need : (wanted : List Place) → wanted ≡ [] → (tables : Tables) → need wanted tables ≡ 0
 no_need wanted none tables = ap (λ w. set.len (set.difference (set.from_list w) tables)) none ∙ ap set.len (difference_empty place_total place_exact tables) ∙ len-empty place_cmp
 
 module _ {X : Type 0} (p q : X → Bool) (m : FinMap nat_cmp X) (low : ℕ) (same : (k : ℕ) (x : X) → get m k ≡ Some x → p x ≡ q x) where

@@ -18,11 +18,11 @@ use Rattle.page_map.proofs.Mappings.{gap_user}
 use Rattle.page_map.proofs.Steps.{Passed, passed, accepted}
 use Rattle.page_map.proofs.StepKeeps.{step_keeps}
 use Rattle.page_map.proofs.Unmapped.{held_of}
-use Rattle.mm_model.specs.Backing.{index_of}
+use Rattle.plain_spaces.specs.Backing.{index_of}
 use Rattle.mm_model.specs.Placing.{IsPlaced, call_of, filled, tables_with}
 use Rattle.mm_model.specs.Plain.{IsSound, owner_counts}
 use Rattle.mm_model.specs.declared.mapping.Mapping.{Mapping}
-use Rattle.mm_model.proofs.Free.{none_in_free}
+use Rattle.plain_spaces.proofs.Free.{none_in_free}
 use Rattle.mm_model.proofs.Placing.{answer_is, after_is}
 use Rattle.mm_model.proofs.Full.{still_full, cells_stay, change_stays}
 use Rattle.mm_model.proofs.Unowned.{same_owners}

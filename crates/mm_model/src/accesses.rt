@@ -3,12 +3,12 @@ ghost use Rattle.std.specs.Prelude.{◌≡◌, ℕ, ◌+◌, ◌<◌, ◌≤◌,
 ghost use Rattle.corten_base.specs.declared.calls.Call.TheVariants as call;
 ghost use Rattle.page_map.specs.State.{linked};
 ghost use Rattle.page_map.specs.Step.{step};
-ghost use Rattle.mm_model.specs.Wants.{refusal_of};
+ghost use Rattle.plain_spaces.specs.Wants.{refusal_of};
 ghost use Rattle.mm_model.specs.Accesses.{Refuses, Accepts, answered};
 
-use crate::access::{Access, Stop};
 use crate::plain::Plain;
 use corten_base::{ByteList, Reply, SpaceId};
+use plain_spaces::{Access, Stop};
 use std::alloc::{AllocError, Global};
 
 /// The reply to a call that was made or refused.

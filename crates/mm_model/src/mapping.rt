@@ -7,14 +7,12 @@ ghost use Rattle.table_place.specs.Place.{pages_of};
 ghost use Rattle.page_map.specs.Mapping.{is_mappable, is_free};
 ghost use Rattle.page_map.specs.State.{linked};
 ghost use Rattle.page_map.specs.Step.{refusal, step};
-ghost use Rattle.mm_model.specs.Backing.{index_of};
+ghost use Rattle.plain_spaces.specs.Backing.{index_of};
 ghost use Rattle.mm_model.specs.Placing.{call_of, IsPlaced, filled, tables_with};
 
 use crate::plain::Plain;
-use crate::space::AddressSpace;
-use crate::spaces::Spaces;
-use crate::tables::Tables;
 use corten_base::{Backing, Perm, Reply, SpaceId};
+use plain_spaces::{AddressSpace, Spaces, Tables};
 use std::alloc::{AllocError, Global};
 
 /// A mapping without a place of its own.

@@ -5,12 +5,8 @@ ghost use Rattle.std.specs.FinMap as map;
 ghost use Rattle.page_map.specs.Cell.{status_of};
 ghost use Rattle.page_map.specs.State.{IsWithinLimits, start, linked, accounts};
 
-use crate::fronts::Fronts;
-use crate::owners::Owners;
-use crate::space::AddressSpace;
-use crate::spaces::Spaces;
-use crate::tables::Tables;
 use corten_base::{Accounts, Limits, SpaceId, Status};
+use plain_spaces::{AddressSpace, Fronts, Owners, Spaces, Tables};
 use std::alloc::{AllocError, Global};
 use std::marker::Model;
 use table_place::Place;

@@ -63,6 +63,7 @@ impl Plain {
                 };
                 self.map_any(alloc, thread, &mapping, limbo)
             }
+            Call::Unmap { space, at, len } => Ok(self.unmap(*space, *at, *len)),
             Call::Load { space, at, len } => self.load(alloc, *space, *at, *len),
             Call::Store { space, at, bytes } => self.store(alloc, *space, *at, bytes),
             _ => unreachable!(),
@@ -71,7 +72,7 @@ impl Plain {
 
     /// Makes a call for a thread, where so many page tables are in limbo, and gives its reply.
     ///
-    /// The calls are `map any`, `load` and `store`; an access is of 1 to 4,096 bytes, and a thread's number
+    /// The calls are `map any`, `unmap`, `load` and `store`; an access is of 1 to 4,096 bytes, and a thread's number
     /// is below 8.
     pub fn step(
         &mut self,

@@ -2,7 +2,7 @@ use Rattle.std.proofs.Common.{◌-◌, Some, cond, ap, ◌∙◌}
 use Rattle.std.specs.FinMap as map
 use Rattle.page_map.specs.Mapping.{backed, is_free}
 use Rattle.page_map.proofs.Range.{get-change}
-use Rattle.mm_model.proofs.Fills.{undone}
+use Rattle.plain_spaces.proofs.Fills.{undone}
 use Rattle.mm_model.proofs.mapping.Mapping.fill.Goals as goal
 
 pub returns-in-Err-clause-cells_stay : goal.returns-in-Err-clause-cells_stay

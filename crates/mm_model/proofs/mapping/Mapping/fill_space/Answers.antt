@@ -3,8 +3,8 @@ use Rattle.std.specs.Option.{unwrap_or, option_copied_mut}
 use Rattle.std.specs.FinMap as map
 use Rattle.page_map.specs.State.{AddressSpace}
 use Rattle.mm_model.specs.Placing.{filled}
-use Rattle.mm_model.proofs.Variants.{ok_from, err_from, some_borrow}
-use Rattle.mm_model.proofs.Fills.{put_back}
+use Rattle.plain_spaces.proofs.Variants.{ok_from, err_from, some_borrow}
+use Rattle.plain_spaces.proofs.Fills.{put_back}
 use Rattle.mm_model.proofs.mapping.Mapping.fill_space.Goals as goal
 
 -- the cells of the space, before and after

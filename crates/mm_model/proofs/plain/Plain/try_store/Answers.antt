@@ -10,10 +10,10 @@ use Rattle.corten_base.specs.declared.calls.Reply.TheVariants as reply
 use Rattle.page_map.specs.State.{State}
 use Rattle.page_map.specs.Access.{outside_user_pages}
 use Rattle.mm_model.specs.Plain.{IsSound}
-use Rattle.mm_model.specs.Reach.{reaching, storing, refused_in, Makes, Keeps}
-use Rattle.mm_model.specs.Wants.{refusal_of}
+use Rattle.plain_spaces.specs.Reach.{reaching, storing, refused_in, Makes, Keeps}
+use Rattle.plain_spaces.specs.Wants.{refusal_of}
 use Rattle.mm_model.specs.Accesses.{Refuses, Accepts}
-use Rattle.mm_model.specs.declared.access.Stop.{Stop}
+use Rattle.plain_spaces.specs.declared.access.Stop.{Stop}
 use Rattle.mm_model.proofs.AccessSteps.{store_access, store_answer}
 use Rattle.mm_model.proofs.AccessCalls.{refuses_outside, refuses_absent, whole_here, frames_here, slots_here, refuses_inside, accepts, stays_sound, same_state, same_sound, refuses_named, accepts_named}
 use Rattle.mm_model.proofs.plain.Plain.try_store.Goals as goal
