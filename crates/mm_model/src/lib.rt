@@ -15,3 +15,6 @@ mod tables;
 
 pub use plain::Plain;
 pub use step::StepFault;
+
+#[cfg(test)]
+mod tests;
