@@ -95,3 +95,10 @@ full_left st space first count cells tables fronts fronts' here full known other
         ap (λ k. full_pages fronts' k t) same ∙ known t few ∙ ap (λ k. full_before (arena_first t) (full_pages fronts k t) first count) (sym same) in
         subst (λ m. IsFull m t (full_pages fronts' s t)) (sym (next_at true e))
         (subst (IsFull new t) (sym now) (left cells first count t (full_pages fronts s t) (subst (λ m. IsFull m t (full_pages fronts s t)) was (full s t small few))))
+
+-- the cells of a space that is present change, and each page that had one has one
+pub full_stays : (st : State) (space : ℕ) (cells cells' : AddressSpace) (tables : Tables) (fronts : List ℕ) → map.get st.spaces space ≡ Some cells →
+    ((q : ℕ) → IsSome (map.get cells q) → IsSome (map.get cells' q)) → AreFull st fronts → AreFull (changed st space cells' tables) fronts
+full_stays st space cells cells' tables fronts here stays full =
+    let cells_here : space_at st space ≡ cells = ap (λ o. unwrap_or o map.empty) here in
+    still_full st (changed st space cells' tables) fronts (cells_stay st space cells' tables (λ q there. stays q (subst (λ old. IsSome (map.get old q)) cells_here there))) full

@@ -2,7 +2,6 @@ pub mod Counts
 pub mod Sound
 pub mod Refusals
 pub mod Placing
-pub mod Unowned
 pub mod Placed
 pub mod Carried
 pub mod AccessSteps
@@ -10,3 +9,4 @@ pub mod AccessCalls
 pub mod Full
 pub mod OpSteps
 pub mod OpCalls
+pub mod Fixed

@@ -1,4 +1,4 @@
-//! Loads and stores of the plain machine.
+//! Loads, stores and page faults of the plain machine.
 ghost use Rattle.std.specs.Prelude.{◌≡◌, ℕ, ◌+◌, ◌<◌, ◌≤◌, length, IfOk, IfErr, IfSome, OnErr};
 ghost use Rattle.corten_base.specs.declared.calls.Call.TheVariants as call;
 ghost use Rattle.page_map.specs.State.{linked};
@@ -89,5 +89,39 @@ impl Plain {
         ensures err { OnErr result (self.new ≡ self.old) }
     {
         answer(self.try_store(alloc, space, at, bytes))
+    }
+
+    /// What a page fault at an address does, or why it is refused.
+    fn try_fault(
+        &mut self,
+        alloc: Global,
+        space: SpaceId,
+        at: u64,
+        write: bool,
+    ) -> Result<Reply, Stop>
+        ensures ok { IfOk result (Accepts self.old self.new (call.Fault space at write)) }
+        ensures refused { IfErr result (λ stop. IfSome (refusal_of stop) (Refuses self.old (call.Fault space at write))) }
+        ensures kept { OnErr result (self.new ≡ self.old) }
+    {
+        let access = Access::new(at, 1, write)?;
+        let Some(cells) = self.spaces.get_mut(space.number()) else {
+            return Err(Stop::Refused(Reply::NoSpace));
+        };
+        cells.fault(alloc, &mut self.frames, &mut self.slots, access)
+    }
+
+    /// A page fault at an address: its page gets the frame that it wants, and no byte changes.
+    pub(crate) fn fault(
+        &mut self,
+        alloc: Global,
+        space: SpaceId,
+        at: u64,
+        write: bool,
+    ) -> Result<Reply, AllocError>
+        ensures ok { IfOk result (λ reply. (thread limbo : ℕ) → linked self.old + limbo ≤ self.old.limits.tables
+            → (reply, self.new) ≡ step self.old thread (call.Fault space at write) limbo) }
+        ensures err { OnErr result (self.new ≡ self.old) }
+    {
+        answer(self.try_fault(alloc, space, at, write))
     }
 }

@@ -219,4 +219,24 @@ impl AddressSpace {
         self.write(access, bytes);
         Ok(Reply::Ok)
     }
+
+    /// Gives the pages of an access the frames that they want.
+    pub fn fault(
+        &mut self,
+        alloc: Global,
+        frames: &mut Owners,
+        slots: &mut Owners,
+        access: Access,
+    ) -> Result<Reply, Stop>
+        requires frames { IsCounted frame_of frames.old self.old }
+        requires slots { IsCounted slot_of slots.old self.old }
+        ensures reply { IfOk result (λ reply. reply ≡ Reply.Ok) }
+        ensures made { OnOk result (Makes access self.old self.new frames.old frames.new slots.old slots.new) }
+        ensures refused { IfErr result (λ stop. IfSome (refusal_of stop) (λ reply. refused_in [] self.old frames.old access ≡ Some reply)) }
+        ensures kept { OnErr result (Keeps self.old self.new frames.old frames.new slots.old slots.new) }
+    {
+        let plan = self.plan(alloc, frames, access)?;
+        self.bring_in(plan, frames, slots);
+        Ok(Reply::Ok)
+    }
 }

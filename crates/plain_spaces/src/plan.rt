@@ -171,6 +171,7 @@ impl AddressSpace {
     pub fn plan(&self, alloc: Global, frames: &Owners, access: Access) -> Result<Plan, Stop>
         requires { IsCounted frame_of frames.now self.now }
         ensures user { IsUserAccess access }
+        ensures nothing_stored { access.stored ≡ [] }
         ensures access { IfOk result (λ plan. plan.access ≡ access) }
         ensures plan { IfOk result (IsPlan [] self.now (slice_index frames.now)) }
         ensures ok { IfOk result (λ _. refused_in [] self.now frames.now access ≡ None) }

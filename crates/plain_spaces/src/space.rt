@@ -41,18 +41,6 @@ impl Model for AddressSpace {
     ghost view = { λ a. map.from_entries a.cells.entries };
 }
 
-/// The least page of a range that has a cell.
-fn next_page(cells: &BTreeMap<u64, Cell>, first: u64, end: u64) -> Option<u64>
-    requires { first ≤ end }
-    ensures some { IfSome result (λ p. (first ≤ p) × (p < end) × IsSome (tree.get nat_cmp cells.now p)) }
-    ensures none { IfNone result ((q : ℕ) → first ≤ q → q < end → tree.get nat_cmp cells.now q ≡ None) }
-{
-    match cells.range(first..end).next() {
-        Some((page, _)) => Some(*page),
-        None => None,
-    }
-}
-
 /// The cell of the page that stands so many pages after the first of a new mapping.
 pub(crate) fn new_cell(backing: Backing, perm: Perm, place: u64) -> Cell
     requires { index_of backing + place < 2 ^ 64 }
@@ -148,58 +136,6 @@ impl AddressSpace {
             Some(start)
         } else {
             None
-        }
-    }
-
-    /// Puts new cells at the pages of a range, until memory is wanted.
-    fn put(
-        &mut self,
-        first: u64,
-        count: u64,
-        perm: Perm,
-        backing: Backing,
-    ) -> Result<(), AllocError>
-        requires fits { first + count < 2 ^ 64 }
-        requires index { index_of backing + count < 2 ^ 64 }
-        ensures ok { OnOk result (self.new ≡ change self.old first count (λ page _. Some (backed backing perm (page - first)))) }
-        ensures others { (q : ℕ) → within first count q ≡ false → map.get self.new q ≡ map.get self.old q }
-    {
-        for page in first..first + count {
-            self.cells
-                .insert(page, new_cell(backing, perm, page - first))?;
-        }
-        Ok(())
-    }
-
-    /// Puts new cells at the pages of a range, none of which has one.
-    pub fn fill(
-        &mut self,
-        first: u64,
-        count: u64,
-        perm: Perm,
-        backing: Backing,
-    ) -> Result<(), AllocError>
-        requires fits { first + count < 2 ^ 64 }
-        requires index { index_of backing + count < 2 ^ 64 }
-        requires free { is_free self.old first count ≡ true }
-        ensures ok { OnOk result (self.new ≡ change self.old first count (λ page _. Some (backed backing perm (page - first)))) }
-        ensures err { OnErr result (self.new ≡ self.old) }
-    {
-        let filled = self.put(first, count, perm, backing);
-        if filled.is_err() {
-            self.unmap(first, count);
-        }
-        filled
-    }
-
-    /// Removes the cells of a range of pages, in the time of those that are there.
-    pub fn unmap(&mut self, first: u64, count: u64)
-        requires { first + count < 2 ^ 64 }
-        ensures { self.new ≡ change self.old first count (λ _ _. None) }
-    {
-        let end = first + count;
-        while let Some(page) = next_page(&self.cells, first, end) {
-            self.cells.remove(&page);
         }
     }
 

@@ -224,7 +224,7 @@ impl Tables {
     }
 
     /// Removes tables.
-    fn remove_all(&mut self, places: &[Place])
+    pub fn remove_all(&mut self, places: &[Place])
         ensures { self.new ≡ set.difference self.old (set.from_list places.now) }
     {
         for place in places {
@@ -232,22 +232,23 @@ impl Tables {
         }
     }
 
-    /// Puts in the tables above a range of pages that are missing.
+    /// Puts in the tables above a range of pages that are missing, and lists them.
     pub fn add_above(
         &mut self,
         alloc: Global,
         space: u8,
         first: u64,
         count: u64,
-    ) -> Result<(), AllocError>
+    ) -> Result<Vec<Place>, AllocError>
         requires some { 0 < count }
         requires fits { first + count ≤ 2 ^ 36 }
         ensures ok { OnOk result (self.new ≡ set.union self.old (set.from_list (above 4 space first count))) }
+        ensures added { IfOk result (λ added. set.difference self.new (set.from_list added.items) ≡ self.old) }
         ensures err { OnErr result (self.new ≡ self.old) }
     {
         let missing = self.missing(alloc, space, first, count)?;
         match self.insert_all(&missing) {
-            Ok(()) => Ok(()),
+            Ok(()) => Ok(missing),
             Err(wanting) => {
                 self.remove_all(&missing);
                 Err(wanting)
