@@ -1,8 +1,8 @@
 -- Each word has one reading.
-use Rattle.std.proofs.Common.{◌≡◌, ℕ, ◌+◌, ◌*◌, ◌/◌, ◌%◌, ◌^◌, ◌<◌, ◌==◌, Bool, true, false, not, sym, refl, ap, ◌∙◌, arith}
-use Rattle.std.proofs.lemmas.Bool.{lt-ltb, le-ltb}
-use Rattle.walk_core.specs.Words.{bit, link_word, leaf_word, link_row, link_generation, leaf_frame, leaf_write, leaf_exec}
-use Rattle.walk_core.proofs.Spellings.{link_word_is, link_row-link_word, link_generation-link_word}
+use Rattle.std.proofs.Common.{◌≡◌, ◌↔◌, eq-eqb, ℕ, ◌+◌, ◌*◌, ◌/◌, ◌%◌, ◌^◌, ◌<◌, ◌==◌, Bool, true, false, not, sym, refl, ap, ◌∙◌, arith}
+use Rattle.std.proofs.lemmas.Bool.{lt-ltb, le-ltb, eqb-true}
+use Rattle.walk_core.specs.Words.{bit, link_word, leaf_word, is_link, link_row, link_generation, is_leaf, leaf_frame, leaf_write, leaf_exec}
+use Rattle.walk_core.proofs.Spellings.{link_spelled, is_link-link_word, link_word_is, link_row-link_word, link_generation-link_word}
 use Rattle.pte_word.specs.declared.Pte.{Pte}
 use Rattle.pte_word.specs.declared.Pte.TheVariants.{Empty, Table, Leaf}
 use Rattle.pte_word.specs.Entries.{Spells}
@@ -75,3 +75,44 @@ no_reading word zero link leaf (Leaf frame write exec) s =
     let writes : leaf_write word ≡ write = ap leaf_write s.1 ∙ leaf_write-leaf_word frame write exec s.0 in
     let execs : leaf_exec word ≡ exec = ap leaf_exec s.1 ∙ leaf_exec-leaf_word frame write exec s.0 in
     leaf (rw (frames, writes, execs) s.1)
+
+-- a link is what the core takes for one
+pub link_reading : (row generation word : ℕ) →
+    Spells (Table row generation) word ↔ ((is_link word ≡ true) × (link_row word ≡ row) × (link_generation word ≡ generation))
+link_reading row generation word = (
+  λ s. (
+    ap is_link s.2 ∙ is_link-link_word row generation s.0 s.1,
+    ap link_row s.2 ∙ link_row-link_word row generation s.0,
+    ap link_generation s.2 ∙ link_generation-link_word row generation s.0,
+  ),
+  λ r. let spelled = link_spelled word r.0 in
+      let few : link_row word < 1024 = omega arith in
+      (rw r.1 at few, rw r.2 at spelled.1, spelled.0 ∙ ap (λ q. link_word q (link_generation word)) r.1 ∙ ap (λ g. link_word row g) r.2),
+)
+
+is_leaf-leaf_word : (f : ℕ) (write exec : Bool) → f < 4096 → is_leaf (leaf_word f write exec) ≡ true
+unfolding is_leaf
+is_leaf-leaf_word f write exec h =
+    let frame = leaf_frame-leaf_word f write exec h in let writes = leaf_write-leaf_word f write exec h in let execs = leaf_exec-leaf_word f write exec h in
+    let w : ℕ = leaf_word f write exec in
+    let same : w ≡ leaf_word (leaf_frame w) (leaf_write w) (leaf_exec w) = λ i. leaf_word (sym frame i) (sym writes i) (sym execs i) in
+    eq-eqb _ _ same
+
+leaf_spelled : (word : ℕ) → is_leaf word ≡ true → word ≡ leaf_word (leaf_frame word) (leaf_write word) (leaf_exec word)
+unfolding is_leaf
+leaf_spelled word e = eqb-true word _ e
+
+-- a leaf is what the core takes for one
+pub leaf_reading : (frame : ℕ) (write exec : Bool) (word : ℕ) →
+    Spells (Leaf frame write exec) word ↔ ((is_leaf word ≡ true) × (leaf_frame word ≡ frame) × (leaf_write word ≡ write) × (leaf_exec word ≡ exec))
+leaf_reading frame write exec word = (
+  λ s. (
+    ap is_leaf s.1 ∙ is_leaf-leaf_word frame write exec s.0,
+    ap leaf_frame s.1 ∙ leaf_frame-leaf_word frame write exec s.0,
+    ap leaf_write s.1 ∙ leaf_write-leaf_word frame write exec s.0,
+    ap leaf_exec s.1 ∙ leaf_exec-leaf_word frame write exec s.0,
+  ),
+  λ r. let spelled = leaf_spelled word r.0 in
+      let few : leaf_frame word < 4096 = omega arith in
+      (rw r.1 at few, spelled ∙ (λ i. leaf_word (r.1 i) (r.2 i) (r.3 i))),
+)

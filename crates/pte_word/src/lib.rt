@@ -1,7 +1,7 @@
 //! The words of page-table entries: how each entry is spelled, and what a word spells.
 #![tactic(auto)]
 
-ghost use Rattle.std.specs.Prelude.{◌≡◌, ℕ, ◌<◌, ◌^◌, ◌&&◌, ◌↔◌, if◌then◌else◌, Ok, Err, IfOk};
+ghost use Rattle.std.specs.Prelude.{◌≡◌, ℕ, Bool, true, ◌<◌, ◌^◌, ◌&&◌, ◌↔◌, if◌then◌else◌, Ok, Err, IfOk};
 ghost use Rattle.walk_core.specs.Words as words;
 ghost use Rattle.pte_word.specs.declared.Pte.{Pte};
 ghost use Rattle.pte_word.specs.Entries.{Spells};
@@ -116,6 +116,15 @@ pub fn read_word(word: u64) -> Result<Pte, Strange>
 /// Two different entries have two words.
 pub fn entries_have_words_of_their_own()
     ensures { (a b : Pte) (word : ℕ) → Spells a word → Spells b word → a ≡ b }
+{}
+
+/// The links and leaves are those that the core's steps take for such.
+pub fn entries_are_those_of_the_core()
+    ensures links { (row generation word : ℕ) →
+        Spells (Pte.Table row generation) word ↔ ((words.is_link word ≡ true) × (words.link_row word ≡ row) × (words.link_generation word ≡ generation)) }
+    ensures leaves { (frame : ℕ) (write exec : Bool) (word : ℕ) →
+        Spells (Pte.Leaf frame write exec) word ↔
+        ((words.is_leaf word ≡ true) × (words.leaf_frame word ≡ frame) × (words.leaf_write word ≡ write) × (words.leaf_exec word ≡ exec)) }
 {}
 
 #[cfg(test)]
