@@ -129,12 +129,12 @@ entries_go_on (e ∷ es) (e' ∷ es') xs line ys he he' none same =
 
 -- the first line behind some entries
 pub data FirstBehind (line : List ℕ) (xs : List (List ℕ)) (es : List Entry) (last : List ℕ) (ys : List (List ℕ)) : Type 0 where
-  entry : (e : Entry) → IsEntry e → line ≡ entry_line e → FirstBehind line xs es last ys
+  entry : (e : Entry) (others : List Entry) → es ≡ e ∷ others → IsEntry e → line ≡ entry_line e → FirstBehind line xs es last ys
   account : es ≡ [] → line ≡ last → xs ≡ ys → FirstBehind line xs es last ys
 
 pub first_behind : (line : List ℕ) (xs : List (List ℕ)) (es : List Entry) (last : List ℕ) (ys : List (List ℕ)) → All IsEntry es → line ∷ xs ≡ map entry_line es ++ last ∷ ys → FirstBehind line xs es last ys
 first_behind line xs [] last ys he same = FirstBehind.account refl (cc) (cc)
-first_behind line xs (e ∷ es) last ys he same = FirstBehind.entry e (All-head IsEntry e es he) (cc)
+first_behind line xs (e ∷ es) last ys he same = FirstBehind.entry e es refl (All-head IsEntry e es he) (cc)
 
 nothing_behind : (es : List Entry) (last : List ℕ) (ys : List (List ℕ)) → [] ≢ map entry_line es ++ last ∷ ys
 nothing_behind [] last ys same = cc
@@ -183,25 +183,30 @@ no_body limits es line he none no_frames b =
     sym (append_assoc (header_lines limits ++ map entry_line es) (line ∷ []) b.more ∙ append_assoc (header_lines limits) (map entry_line es) (line ∷ b.more)) in
     let on = behind_entries limits es (line ∷ b.more) h b.goes_on.has_text he (shape ∙ b.goes_on.are) in
     elim (first_behind line b.more on.more _ _ on.are_entries on.rest) [
-      | FirstBehind.entry e is_entry is ↦ none e is_entry is
+      | FirstBehind.entry e others goes is_entry is ↦ none e is_entry is
       | FirstBehind.account empty is rest ↦ no_counts_line line (codes "frames") (codes "free") (codes "mapped") frames_names no_frames (frames_counts h.accounts) b.goes_on.has_text.accounts.frames is
     ]
 
 -- the account lines behind the line of frames are the text's last ones
-pub record LastLines (xs : List (List ℕ)) (f : Counts) (h : History) : Type 0 where
+pub record LastLines (es : List Entry) (xs : List (List ℕ)) (f : Counts) (h : History) : Type 0 where
+  pub entries : es ≡ h.entries
   pub frames : frames_line f ≡ frames_line (frames_counts h.accounts)
   pub others : xs ≡ swap_line (swap_counts h.accounts) ∷ tables_line (tables_counts h.accounts) ∷ []
 
-pub last_lines : (limits : Limits) (es : List Entry) (f : Counts) (xs : List (List ℕ)) (h : History) → HasText h → All IsEntry es → AreCounts f → header_lines limits ++ (map entry_line es ++ frames_line f ∷ xs) ≡ history_lines h → LastLines xs f h
+pub last_lines : (limits : Limits) (es : List Entry) (f : Counts) (xs : List (List ℕ)) (h : History) → HasText h → All IsEntry es → AreCounts f → header_lines limits ++ (map entry_line es ++ frames_line f ∷ xs) ≡ history_lines h → LastLines es xs f h
 last_lines limits es f xs h has he hf same =
     let on = behind_entries limits es (frames_line f ∷ xs) h has he same in
     elim (first_behind (frames_line f) xs on.more _ _ on.are_entries on.rest) [
-      | FirstBehind.entry e is_entry is ↦ absurd (frames_line_no_entry f hf e is_entry is)
-      | FirstBehind.account empty is rest ↦ record { frames = is; others = rest }
+      | FirstBehind.entry e others goes is_entry is ↦ absurd (frames_line_no_entry f hf e is_entry is)
+      | FirstBehind.account empty is rest ↦ record {
+        entries = sym (on.entries ∙ ap (λ m. es ++ m) empty ∙ append-nil es);
+        frames = is;
+        others = rest;
+      }
     ]
 
 -- the lines of a text that goes on behind the line of frames
-after_frames : (limits : Limits) (es : List Entry) (f : Counts) (xs ys : List (List ℕ)) → All IsEntry es → AreCounts f → (b : Begins ((header_lines limits ++ (map entry_line es ++ frames_line f ∷ xs)) ++ ys)) → LastLines ((xs ++ ys) ++ b.more) f b.goes_on.history
+pub after_frames : (limits : Limits) (es : List Entry) (f : Counts) (xs ys : List (List ℕ)) → All IsEntry es → AreCounts f → (b : Begins ((header_lines limits ++ (map entry_line es ++ frames_line f ∷ xs)) ++ ys)) → LastLines es ((xs ++ ys) ++ b.more) f b.goes_on.history
 after_frames limits es f xs ys he hf b =
     let first : (header_lines limits ++ (map entry_line es ++ frames_line f ∷ xs)) ++ ys ≡ header_lines limits ++ (map entry_line es ++ frames_line f ∷ (xs ++ ys)) =
     behind_header limits (map entry_line es) (frames_line f ∷ xs) ys in

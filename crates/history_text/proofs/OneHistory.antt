@@ -37,7 +37,7 @@ history_are_lines h has =
 limits_from_parts : (a b : Limits) → a.frames ≡ b.frames → a.tables ≡ b.tables → a.swap ≡ b.swap → a ≡ b
 limits_from_parts a b frames tables swap = λ i. record { frames = frames i; tables = tables i; swap = swap i }
 
-same_limits : (a b : Limits) (x y : List (List ℕ)) → AreLimits a → AreLimits b → header_lines a ++ x ≡ header_lines b ++ y → a ≡ b
+pub same_limits : (a b : Limits) (x y : List (List ℕ)) → AreLimits a → AreLimits b → header_lines a ++ x ≡ header_lines b ++ y → a ≡ b
 same_limits a b x y ha hb same = limits_from_parts a b
     (limit_line_injective (codes "frames") a.frames b.frames refl ha.frames.1 hb.frames.1 (cc))
     (limit_line_injective (codes "tables") a.tables b.tables refl (omega (arith, ha.tables.1)) (omega (arith, hb.tables.1)) (cc))
@@ -70,7 +70,7 @@ same_body : (a b : History) → HasText a → HasText b → history_lines a ≡ 
 same_body a b ha hb same =
     let on = behind_entries a.limits a.entries (account_lines a.accounts) b hb ha.entries same in
     elim (first_behind (frames_line (frames_counts a.accounts)) (swap_line (swap_counts a.accounts) ∷ tables_line (tables_counts a.accounts) ∷ []) on.more _ _ on.are_entries on.rest) [
-      | FirstBehind.entry e is_entry is ↦ absurd (frames_line_no_entry (frames_counts a.accounts) ha.accounts.frames e is_entry is)
+      | FirstBehind.entry e others goes is_entry is ↦ absurd (frames_line_no_entry (frames_counts a.accounts) ha.accounts.frames e is_entry is)
       | FirstBehind.account none is rest ↦ record {
         entries = sym (on.entries ∙ ap (λ es. a.entries ++ es) none ∙ append-nil a.entries);
         frames = is;

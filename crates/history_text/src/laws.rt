@@ -2,7 +2,9 @@
 ghost use Rattle.std.specs.Prelude.{◌≡◌, ℕ, List, ◌++◌};
 ghost use Rattle.corten_base.specs.declared.calls.Entry.{Entry};
 ghost use Rattle.history_text.specs.declared.history.History.{History};
+ghost use Rattle.history_text.specs.declared.verdict.Verdict.{Verdict};
 ghost use Rattle.history_text.specs.HistoryText.{entry_words, entry_line, history_text, IsEntry, HasText, IsHistoryText, IsFirstFault};
+ghost use Rattle.history_text.specs.Checking.{IsVerdict};
 
 /// A line is that of one entry at most.
 pub fn a_line_has_one_entry()
@@ -31,4 +33,9 @@ pub fn a_text_has_one_history()
 pub fn a_text_has_one_first_fault()
     ensures one { (bytes : List ℕ) (m n : ℕ) → IsFirstFault bytes m → IsFirstFault bytes n → m ≡ n }
     ensures none { (bytes : List ℕ) (n : ℕ) (h : History) → IsFirstFault bytes n → ¬ (IsHistoryText bytes h) }
+{}
+
+/// Of a history one verdict at most is right.
+pub fn a_history_has_one_verdict()
+    ensures { (h : History) (v w : Verdict) → HasText h → IsVerdict h v → IsVerdict h w → v ≡ w }
 {}
