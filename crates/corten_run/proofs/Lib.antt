@@ -1,4 +1,3 @@
-pub mod Parts
 pub mod Answering
 pub mod Texts
 pub mod Told

@@ -1,6 +1,7 @@
 //! The commands of the program over any source and sink.
 #![tactic(auto)]
 
+mod answers;
 mod command;
 mod ending;
 mod script_run;

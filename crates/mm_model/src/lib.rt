@@ -9,3 +9,6 @@ mod step;
 
 pub use plain::Plain;
 pub use step::StepFault;
+
+#[cfg(test)]
+mod tests;
