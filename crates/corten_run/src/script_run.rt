@@ -10,6 +10,7 @@ ghost use Rattle.history_text.specs.Outcomes.{GoesOn, IsWritten};
 ghost use Rattle.corten_run.specs.Solo.{answered, state_after_calls, all_answered, state_after_threads, solo_text};
 
 use corten_base::{Call, CallList, Sink};
+use file_shelf::Shelf;
 use history_text::{Written, push_header, write_accounts, write_entry};
 use mm_model::{Plain, StepFault};
 use mm_script::Script;
@@ -101,7 +102,7 @@ pub fn write_solo<K: Sink>(alloc: Global, script: &Script, sink: &mut K) -> Writ
     ensures written { IsWritten (K.held sink.old) (K.held sink.new) (K.faults sink.old) (K.faults sink.new) (solo_text script.now) result }
     ensures count { K.faults sink.old ≤ K.faults sink.new }
 {
-    let Ok(mut plain) = Plain::new(alloc, script.limits) else {
+    let Ok(mut plain) = Plain::new(alloc, script.limits, Shelf::new(alloc)) else {
         return Written::NoMemory;
     };
     let mut waiting = Vec::new(alloc);

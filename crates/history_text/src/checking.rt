@@ -12,6 +12,7 @@ use crate::counts::Counts;
 use crate::history::History;
 use crate::verdict::Verdict;
 use corten_base::{Accounts, Entry, Reply};
+use file_shelf::Shelf;
 use mm_model::{Plain, StepFault};
 use std::alloc::{AllocError, Global};
 
@@ -99,7 +100,7 @@ pub fn check(alloc: Global, history: &History) -> Result<Verdict, AllocError>
     requires { HasText history.now }
     ensures { IfOk result (IsVerdict history.now) }
 {
-    let mut plain = Plain::new(alloc, history.limits)?;
+    let mut plain = Plain::new(alloc, history.limits, Shelf::new(alloc))?;
     let entries = history.entries.list();
     if let Some(place) = first_wrong_entry(alloc, &mut plain, entries)? {
         return Ok(Verdict::Illegal(FIRST_ENTRY + place as u64));

@@ -34,7 +34,13 @@ impl Plain {
         let Some(cells) = self.spaces.get_mut(space.number()) else {
             return Err(Stop::Refused(Reply::NoSpace));
         };
-        cells.load(alloc, &mut self.frames, &mut self.slots, access)
+        cells.load(
+            alloc,
+            &self.shelf,
+            &mut self.frames,
+            &mut self.slots,
+            access,
+        )
     }
 
     /// The bytes from an address on. Their pages get the frames that they want.
@@ -72,7 +78,14 @@ impl Plain {
         let Some(cells) = self.spaces.get_mut(space.number()) else {
             return Err(Stop::Refused(Reply::NoSpace));
         };
-        cells.store(alloc, &mut self.frames, &mut self.slots, access, stored)
+        cells.store(
+            alloc,
+            &self.shelf,
+            &mut self.frames,
+            &mut self.slots,
+            access,
+            stored,
+        )
     }
 
     /// Stores bytes from an address on. Their pages get the frames that they want.
@@ -107,7 +120,13 @@ impl Plain {
         let Some(cells) = self.spaces.get_mut(space.number()) else {
             return Err(Stop::Refused(Reply::NoSpace));
         };
-        cells.fault(alloc, &mut self.frames, &mut self.slots, access)
+        cells.fault(
+            alloc,
+            &self.shelf,
+            &mut self.frames,
+            &mut self.slots,
+            access,
+        )
     }
 
     /// A page fault at an address: its page gets the frame that it wants, and no byte changes.

@@ -1,10 +1,10 @@
 //! Mapping pages, at the least gap of a thread's arena or at an address.
-ghost use Rattle.std.specs.Prelude.{◌≡◌, ℕ, ◌+◌, ◌<◌, ◌≤◌, ◌^◌, [], cond, is_some, Some, None, IfOk, IfErr, OnOk, OnErr};
+ghost use Rattle.std.specs.Prelude.{◌≡◌, ℕ, ◌+◌, ◌<◌, ◌≤◌, ◌^◌, cond, is_some, Some, None, IfOk, IfErr, OnOk, OnErr};
 ghost use Rattle.std.specs.FinMap as map;
 ghost use Rattle.table_place.specs.Place.{above, pages_of};
 ghost use Rattle.page_map.specs.Cell.{frame_of, slot_of};
 ghost use Rattle.page_map.specs.Change.{least};
-ghost use Rattle.page_map.specs.Mapping.{is_mappable};
+ghost use Rattle.page_map.specs.Mapping.{is_backing, is_mappable};
 ghost use Rattle.page_map.specs.State.{linked};
 ghost use Rattle.page_map.specs.Step.{refusal, step};
 ghost use Rattle.plain_spaces.specs.Backing.{index_of};
@@ -13,6 +13,7 @@ ghost use Rattle.mm_model.specs.Placing.{call_of, call_at, IsPlaced, IsFixed, Ma
 
 use crate::plain::Plain;
 use corten_base::{Backing, Perm, Range, Reply, SpaceId};
+use file_shelf::Shelf;
 use plain_spaces::{AddressSpace, NewPages, Owners, Tables};
 use std::alloc::{AllocError, Global};
 
@@ -32,6 +33,9 @@ pub struct Mapping {
 /// The greatest length of a mapping, half of the address space.
 const GREATEST_LEN: u64 = 1 << 47;
 
+/// The greatest index of a page in a file.
+const GREATEST_INDEX: u64 = 1 << 40;
+
 /// How many pages a length covers.
 fn pages(len: u64) -> u64
     ensures { result ≡ pages_of len }
@@ -39,8 +43,18 @@ fn pages(len: u64) -> u64
     len / 4096 + if len % 4096 == 0 { 0 } else { 1 }
 }
 
+/// Whether there is a file of its number, and its index is in bounds.
+fn is_backing(shelf: &Shelf, backing: Backing) -> bool
+    ensures { result ≡ is_backing shelf.now backing }
+{
+    match backing {
+        Backing::Zero => true,
+        Backing::File { file, index } => file < shelf.count() && index <= GREATEST_INDEX,
+    }
+}
+
 /// The least page of a range that has a cell, where the range has to be empty.
-fn page_in_the_way(cells: &AddressSpace, fresh: bool, first: u64, count: u64) -> Option<u64>
+fn mapped_page(cells: &AddressSpace, fresh: bool, first: u64, count: u64) -> Option<u64>
     requires { first + count < 2 ^ 64 }
     ensures { result ≡ cond fresh (least first count (λ page. is_some (map.get cells.now page))) None }
 {
@@ -53,13 +67,10 @@ fn page_in_the_way(cells: &AddressSpace, fresh: bool, first: u64, count: u64) ->
 
 impl Mapping {
     /// Whether its length and what stands behind it are right.
-    pub(crate) fn is_right(&self) -> bool
-        ensures { result ≡ is_mappable 4 [] self.now.len self.now.backing }
+    fn is_right(&self, shelf: &Shelf) -> bool
+        ensures { result ≡ is_mappable 4 shelf.now self.now.len self.now.backing }
     {
-        match self.backing {
-            Backing::Zero => self.len > 0 && self.len <= GREATEST_LEN,
-            Backing::File { .. } => false,
-        }
+        self.len > 0 && self.len <= GREATEST_LEN && is_backing(shelf, self.backing)
     }
 
     /// Maps its pages from one on, which take the place of what was there, and puts in the tables above them.
@@ -172,7 +183,7 @@ impl Plain {
     {
         let spaces = &self.spaces;
         let space = mapping.space.number();
-        if !mapping.is_right() {
+        if !mapping.is_right(&self.shelf) {
             return Err(Reply::Einval);
         }
         let Some(cells) = spaces.get(space) else {
@@ -235,7 +246,7 @@ impl Plain {
     {
         let spaces = &self.spaces;
         let space = mapping.space.number();
-        if !mapping.is_right() {
+        if !mapping.is_right(&self.shelf) {
             return Err(Reply::Einval);
         }
         let Some(range) = Range::of_bytes(at, mapping.len) else {
@@ -245,7 +256,7 @@ impl Plain {
             return Err(Reply::NoSpace);
         };
         let (first, count) = (range.first(), range.count());
-        if let Some(page) = page_in_the_way(cells, fresh, first, count) {
+        if let Some(page) = mapped_page(cells, fresh, first, count) {
             return Err(Reply::Exists(4096 * page));
         }
         match self.lack_of_tables(space, first, count, limbo) {

@@ -4,6 +4,7 @@ ghost use Rattle.mm_model.specs.Served.{IsServed};
 
 use super::*;
 use corten_base::{Backing, ByteList, Call, Limits, MapPlace, Perm, Reply, SpaceId};
+use file_shelf::Shelf;
 use std::alloc::{AllocError, Global};
 use std::test::Fail;
 
@@ -91,7 +92,7 @@ fn replies(rt: HostRuntime) -> Result<(), Fail> {
         tables: 8,
         swap: 1,
     };
-    let mut plain = Plain::new(rt.alloc(), limits)?;
+    let mut plain = Plain::new(rt.alloc(), limits, Shelf::new(rt.alloc()))?;
     let present = SpaceId::new(0).ok_or("0 is a space")?;
     let absent = SpaceId::new(63).ok_or("63 is a space")?;
     for (space, asked, wanted) in [
@@ -121,7 +122,7 @@ fn page_tables_that_are_not_there(rt: HostRuntime) -> Result<(), Fail> {
         tables: 3,
         swap: 0,
     };
-    let mut plain = Plain::new(rt.alloc(), limits)?;
+    let mut plain = Plain::new(rt.alloc(), limits, Shelf::new(rt.alloc()))?;
     let space = SpaceId::new(0).ok_or("0 is a space")?;
     let call = call_of(rt.alloc(), space, Asked::Map(1, READ_WRITE))?;
     assert_eq!(rt;

@@ -23,10 +23,10 @@ use Rattle.plain_spaces.specs.declared.plan.Want.TheVariants.{Nothing, Frame}
 use Rattle.plain_spaces.proofs.Reach.{one_or_two}
 
 -- what a page wants suits it
-want_suits : (files : List (List ℕ)) (owners : ℕ → ℕ) (write : Bool) (cell : Cell) → Suits files cell (want_of files owners write cell)
+want_suits : (files : List (List ℕ)) (owners : ℕ → ℕ) (write : Bool) (cell : Cell) → Suits cell (want_of owners write cell)
 want_suits files owners write (Mapped perm frame bytes) = go _
   where
-    go : (b : Bool) → Suits files (Mapped perm frame bytes) (cond b Frame Nothing)
+    go : (b : Bool) → Suits (Mapped perm frame bytes) (cond b Frame Nothing)
     go true = tt
     go false = tt
 want_suits files owners write (Anon perm) = refl
@@ -34,23 +34,23 @@ want_suits files owners write (File perm file index) = refl
 want_suits files owners write (Swapped perm slot bytes) = tt
 
 module _ (files : List (List ℕ)) (owners : ℕ → ℕ) (write : Bool) where
-  pub wanted_there : (o : Option Cell) (want : Want) → option_map (want_of files owners write) o ≡ Some want → IsSome o
+  pub wanted_there : (o : Option Cell) (want : Want) → option_map (want_of owners write) o ≡ Some want → IsSome o
   wanted_there None want e = absurd (none e)
     where
       none : ◌≡◌ {A = Option Want} None (Some want) → ⊥
       none h = cc
   wanted_there (Some cell) want e = refl
 
-  pub wanted_suits : (o : Option Cell) (want : Want) → option_map (want_of files owners write) o ≡ Some want → IfSome o (λ cell. Suits files cell want)
+  pub wanted_suits : (o : Option Cell) (want : Want) → option_map (want_of owners write) o ≡ Some want → IfSome o (λ cell. Suits cell want)
   wanted_suits None want e = tt
-  wanted_suits (Some cell) want e = subst (Suits files cell) (same_some e) (want_suits files owners write cell)
+  wanted_suits (Some cell) want e = subst (Suits cell) (same_some e) (want_suits files owners write cell)
 
 -- the last page has a cell, where it is not the first
-pub last_there : (files : List (List ℕ)) (cells : AddressSpace) (owners : ℕ → ℕ) (a : Access) (far : Want) → beyond a (Some Nothing) (option_map (want_of files owners a.write) (get cells (last_page a))) ≡ Some far →
+pub last_there : (files : List (List ℕ)) (cells : AddressSpace) (owners : ℕ → ℕ) (a : Access) (far : Want) → beyond a (Some Nothing) (option_map (want_of owners a.write) (get cells (last_page a))) ≡ Some far →
     (last_page a ≡ first_page a → ⊥) → IsSome (get cells (last_page a))
 last_there files cells owners a far e f =
     wanted_there files owners a.write (get cells (last_page a)) far
-    (sym (cond-false _ (Some Nothing) (option_map (want_of files owners a.write) (get cells (last_page a))) (ne_eqb (last_page a) (first_page a) f)) ∙ e)
+    (sym (cond-false _ (Some Nothing) (option_map (want_of owners a.write) (get cells (last_page a))) (ne_eqb (last_page a) (first_page a) f)) ∙ e)
 
 pub within_one : (k q : ℕ) → within k 1 q ≡ nat_eq q k
 within_one k q = go (within k 1 q) refl
@@ -75,7 +75,7 @@ twice files frame None = refl
 twice files frame (Some cell) = refl
 
 module _ (files : List (List ℕ)) (cells : AddressSpace) (owners : ℕ → ℕ) (a : Access) (some : 0 < a.len) (few : a.len ≤ 4096) (near far : Want) (first last : Option ℕ)
-    (far_is : beyond a (Some Nothing) (option_map (want_of files owners a.write) (get cells (last_page a))) ≡ Some far) where
+    (far_is : beyond a (Some Nothing) (option_map (want_of owners a.write) (get cells (last_page a))) ≡ Some far) where
   abbrev settled : AddressSpace
   settled = change cells (first_page a) 1 (λ _. option_map (given files first))
 
@@ -89,10 +89,10 @@ module _ (files : List (List ℕ)) (cells : AddressSpace) (owners : ℕ → ℕ)
   settled_next f = settled_at (last_page a) ∙ cond-false _ _ _ (ne_eqb (last_page a) (first_page a) f)
 
   pub far_nothing : last_page a ≡ first_page a → far ≡ Nothing
-  far_nothing e = sym (same_some (sym (cond-true _ (Some Nothing) (option_map (want_of files owners a.write) (get cells (last_page a))) (eq-eqb (last_page a) (first_page a) e)) ∙ far_is))
+  far_nothing e = sym (same_some (sym (cond-true _ (Some Nothing) (option_map (want_of owners a.write) (get cells (last_page a))) (eq-eqb (last_page a) (first_page a) e)) ∙ far_is))
 
-  far_wanted : (last_page a ≡ first_page a → ⊥) → option_map (want_of files owners a.write) (get cells (last_page a)) ≡ Some far
-  far_wanted f = sym (cond-false _ (Some Nothing) (option_map (want_of files owners a.write) (get cells (last_page a))) (ne_eqb (last_page a) (first_page a) f)) ∙ far_is
+  far_wanted : (last_page a ≡ first_page a → ⊥) → option_map (want_of owners a.write) (get cells (last_page a)) ≡ Some far
+  far_wanted f = sym (cond-false _ (Some Nothing) (option_map (want_of owners a.write) (get cells (last_page a))) (ne_eqb (last_page a) (first_page a) f)) ∙ far_is
 
   -- what the last page is once the first has moved
   pub far_there : IsSome (get cells (first_page a)) → IsSome (get settled (last_page a))
@@ -106,16 +106,16 @@ module _ (files : List (List ℕ)) (cells : AddressSpace) (owners : ℕ → ℕ)
       go (inl e) = subst (λ o. IsSome o) (sym (settled_same e)) (moved (get cells (first_page a)) there)
       go (inr f) = subst (λ o. IsSome o) (sym (settled_next f)) (wanted_there files owners a.write (get cells (last_page a)) far (far_wanted f))
 
-  pub far_suits : IfSome (get settled (last_page a)) (λ cell. Suits files cell far)
+  pub far_suits : IfSome (get settled (last_page a)) (λ cell. Suits cell far)
   far_suits = go (cases_eq (last_page a) (first_page a))
     where
-      moved : (o : Option Cell) → IfSome (option_map (given files first) o) (λ cell. Suits files cell Nothing)
+      moved : (o : Option Cell) → IfSome (option_map (given files first) o) (λ cell. Suits cell Nothing)
       moved None = tt
       moved (Some cell) = tt
 
-      go : (last_page a ≡ first_page a) ⊎ (last_page a ≡ first_page a → ⊥) → IfSome (get settled (last_page a)) (λ cell. Suits files cell far)
-      go (inl e) = subst (λ o. IfSome o (λ cell. Suits files cell far)) (sym (settled_same e)) (subst (λ w. IfSome (option_map (given files first) (get cells (first_page a))) (λ cell. Suits files cell w)) (sym (far_nothing e)) (moved (get cells (first_page a))))
-      go (inr f) = subst (λ o. IfSome o (λ cell. Suits files cell far)) (sym (settled_next f)) (wanted_suits files owners a.write (get cells (last_page a)) far (far_wanted f))
+      go : (last_page a ≡ first_page a) ⊎ (last_page a ≡ first_page a → ⊥) → IfSome (get settled (last_page a)) (λ cell. Suits cell far)
+      go (inl e) = subst (λ o. IfSome o (λ cell. Suits cell far)) (sym (settled_same e)) (subst (λ w. IfSome (option_map (given files first) (get cells (first_page a))) (λ cell. Suits cell w)) (sym (far_nothing e)) (moved (get cells (first_page a))))
+      go (inr f) = subst (λ o. IfSome o (λ cell. Suits cell far)) (sym (settled_next f)) (wanted_suits files owners a.write (get cells (last_page a)) far (far_wanted f))
 
   -- both pages have moved to the frames that were granted
   pub both_settled : (grants : Grant) → granted grants (first_page a) ≡ first → ((last_page a ≡ first_page a → ⊥) → granted grants (last_page a) ≡ last) → is_some last ≡ is_wanting far →

@@ -18,3 +18,4 @@ pub mod Parts
 pub mod Nexts
 pub mod Followed
 pub mod Vacant
+pub mod Files

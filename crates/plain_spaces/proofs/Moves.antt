@@ -70,7 +70,7 @@ module _ (files : List (List ℕ)) (cells : AddressSpace) (page frame : ℕ) (ce
   }
 
 -- a page that wants nothing has a frame, and stays on it
-given_none : (files : List (List ℕ)) (cell : Cell) (want : Want) → Suits files cell want → is_wanting want ≡ false → given files None cell ≡ cell
+given_none : (files : List (List ℕ)) (cell : Cell) (want : Want) → Suits cell want → is_wanting want ≡ false → given files None cell ≡ cell
 given_none files (Mapped perm frame bytes) want s e = refl
 given_none files (Anon perm) Nothing s e = absurd s
 given_none files (Anon perm) Frame s e = absurd s
@@ -82,7 +82,7 @@ given_none files (Swapped perm slot bytes) Nothing s e = absurd s
 given_none files (Swapped perm slot bytes) Frame s e = cc
 given_none files (Swapped perm slot bytes) (Body b) s e = absurd s
 
-pub stays : (files : List (List ℕ)) (cells : AddressSpace) (page : ℕ) (cell : Cell) (want : Want) → get cells page ≡ Some cell → Suits files cell want → is_wanting want ≡ false →
+pub stays : (files : List (List ℕ)) (cells : AddressSpace) (page : ℕ) (cell : Cell) (want : Want) → get cells page ≡ Some cell → Suits cell want → is_wanting want ≡ false →
     cells ≡ change cells page 1 (λ _. option_map (given files None))
 stays files cells page cell want here s e = sym (
     change_one cells page (λ _. option_map (given files None))

@@ -58,7 +58,7 @@ is_counted number_of counts cells ok page = go (get cells page) refl
         each (Some n) h = counted counts n h
 
 -- what a page wants has a frame in it where the page wants one
-wants_it : (files : List (List ℕ)) (owners : ℕ → ℕ) (write : Bool) (cell : Cell) → is_wanting (want_of files owners write cell) ≡ wants owners write cell
+wants_it : (files : List (List ℕ)) (owners : ℕ → ℕ) (write : Bool) (cell : Cell) → is_wanting (want_of owners write cell) ≡ wants owners write cell
 wants_it files owners write (Mapped perm frame bytes) = go (write && not (nat_eq (owners frame) 1))
   where
     go : (b : Bool) → is_wanting (cond b Frame Nothing) ≡ b
@@ -69,7 +69,7 @@ wants_it files owners write (File perm file index) = refl
 wants_it files owners write (Swapped perm slot bytes) = refl
 
 module _ (files : List (List ℕ)) (owners : ℕ → ℕ) (write : Bool) where
-  pub chosen_wants : (page : ℕ) (o : Option Cell) (want : Want) → option_map (want_of files owners write) o ≡ Some want → chosen (wants owners write) page o ≡ cond (is_wanting want) (page ∷ []) []
+  pub chosen_wants : (page : ℕ) (o : Option Cell) (want : Want) → option_map (want_of owners write) o ≡ Some want → chosen (wants owners write) page o ≡ cond (is_wanting want) (page ∷ []) []
   unfolding chosen
   chosen_wants page None want e = absurd (none e)
     where
@@ -118,8 +118,8 @@ module _ (files : List (List ℕ)) (cells : AddressSpace) (owners : ℕ → ℕ)
           ∙ ap (option_or (at (first_page a))) (sym (cond-false _ None (at (last_page a)) (ne_eqb (last_page a) (first_page a) (λ f. omega (arith, e.0, f)))))
 
   -- the pages that want a frame, from what the two pages want
-  pub wanting_is : (near far : Want) → option_map (want_of files owners a.write) (get cells (first_page a)) ≡ Some near →
-      beyond a (Some Nothing) (option_map (want_of files owners a.write) (get cells (last_page a))) ≡ Some far →
+  pub wanting_is : (near far : Want) → option_map (want_of owners a.write) (get cells (first_page a)) ≡ Some near →
+      beyond a (Some Nothing) (option_map (want_of owners a.write) (get cells (last_page a))) ≡ Some far →
       wanting owners cells a ≡ cond (is_wanting near) (first_page a ∷ []) [] ++ cond (is_wanting far) (last_page a ∷ []) []
   wanting_is near far n f = go (one_or_two a some few)
     where
@@ -129,15 +129,15 @@ module _ (files : List (List ℕ)) (cells : AddressSpace) (owners : ℕ → ℕ)
           ap (λ k. keys_in cells (first_page a) k (wants owners a.write)) e.1 ∙ keys_in_one (wants owners a.write) cells (first_page a)
           ∙ chosen_wants files owners a.write (first_page a) (get cells (first_page a)) near n
           ∙ sym (append-nil (cond (is_wanting near) (first_page a ∷ []) []))
-          ∙ ap (λ w. cond (is_wanting near) (first_page a ∷ []) [] ++ cond (is_wanting w) (last_page a ∷ []) []) (same_some (sym (cond-true _ (Some Nothing) (option_map (want_of files owners a.write) (get cells (last_page a))) (eq-eqb (last_page a) (first_page a) e.0)) ∙ f))
+          ∙ ap (λ w. cond (is_wanting near) (first_page a ∷ []) [] ++ cond (is_wanting w) (last_page a ∷ []) []) (same_some (sym (cond-true _ (Some Nothing) (option_map (want_of owners a.write) (get cells (last_page a))) (eq-eqb (last_page a) (first_page a) e.0)) ∙ f))
       go (inr e) =
           ap (λ k. keys_in cells (first_page a) k (wants owners a.write)) e.1 ∙ keys_in_two (wants owners a.write) cells (first_page a)
           ∙ (λ i. chosen_wants files owners a.write (first_page a) (get cells (first_page a)) near n i
           ++ (ap (λ page. chosen (wants owners a.write) page (get cells page)) (sym e.0)
-          ∙ chosen_wants files owners a.write (last_page a) (get cells (last_page a)) far (sym (cond-false _ (Some Nothing) (option_map (want_of files owners a.write) (get cells (last_page a))) (ne_eqb (last_page a) (first_page a) (λ g. omega (arith, e.0, g)))) ∙ f)) i)
+          ∙ chosen_wants files owners a.write (last_page a) (get cells (last_page a)) far (sym (cond-false _ (Some Nothing) (option_map (want_of owners a.write) (get cells (last_page a))) (ne_eqb (last_page a) (first_page a) (λ g. omega (arith, e.0, g)))) ∙ f)) i)
 
-  pub count_wanting : (near far : Want) → option_map (want_of files owners a.write) (get cells (first_page a)) ≡ Some near →
-      beyond a (Some Nothing) (option_map (want_of files owners a.write) (get cells (last_page a))) ≡ Some far →
+  pub count_wanting : (near far : Want) → option_map (want_of owners a.write) (get cells (first_page a)) ≡ Some near →
+      beyond a (Some Nothing) (option_map (want_of owners a.write) (get cells (last_page a))) ≡ Some far →
       length (wanting owners cells a) ≡ cond (is_wanting near) 1 0 + cond (is_wanting far) 1 0
   count_wanting near far n f = ap length (wanting_is near far n f) ∙ go (is_wanting near) (is_wanting far)
     where
@@ -160,8 +160,8 @@ module _ (files : List (List ℕ)) (cells : AddressSpace) (frames : List ℕ) (a
   refused_by_far r n e = refused_by_pages r (refused_either files cells (slice_index frames) a some few ∙ (λ i. option_or (n i) (e i)))
 
   -- the pages don't refuse, and so the frames decide
-  pub refused_by_frames : (near far : Want) → option_map (want_of files (slice_index frames) a.write) (get cells (first_page a)) ≡ Some near →
-      beyond a (Some Nothing) (option_map (want_of files (slice_index frames) a.write) (get cells (last_page a))) ≡ Some far →
+  pub refused_by_frames : (near far : Want) → option_map (want_of (slice_index frames) a.write) (get cells (first_page a)) ≡ Some near →
+      beyond a (Some Nothing) (option_map (want_of (slice_index frames) a.write) (get cells (last_page a))) ≡ Some far →
       refused_at files a.write (first_page a) (get cells (first_page a)) ≡ None → beyond a None (refused_at files a.write (last_page a) (get cells (last_page a))) ≡ None →
       refused_in files cells frames a ≡ lack (length (unused_of frames)) (cond (is_wanting near) 1 0 + cond (is_wanting far) 1 0)
   refused_by_frames near far n f nr fr =

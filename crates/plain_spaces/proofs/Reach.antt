@@ -101,15 +101,3 @@ user_access a u = outside_last a u.some u.few (user a u.some u.few (first_page a
 pub same_zeros : body.zeros ≡ zeros
 unfolding body.zeros zeros
 same_zeros = refl
-
-cut_zeros : (k n : ℕ) (bytes zs : List ℕ) → bytes ≡ [] → length zs ≡ k → take k (drop n bytes ++ zs) ≡ zs
-cut_zeros k n bytes zs none long =
-    ap (λ b. take k (drop n b ++ zs)) none ∙ ap (λ b. take k (b ++ zs)) (drop_all n [] (omega arith)) ∙ take_all k zs (omega (arith, long))
-
-no_bytes : (file : ℕ) → file_bytes [] file ≡ []
-no_bytes zero = refl
-no_bytes (suc file) = refl
-
--- there is no file, and so a page of one is zeros
-pub no_file : (file index : ℕ) → file_page [] file index ≡ zeros
-no_file file index = cut_zeros 4096 (4096 * index) (file_bytes [] file) zeros (no_bytes file) length_zeros

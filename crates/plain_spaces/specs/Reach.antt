@@ -115,9 +115,9 @@ pub record Follows (taken : Option ℕ) (number_of : Cell → Option ℕ) (old n
   pub counts : (n : ℕ) → slice_index new n + carried number_of n before + one_at taken n ≡ slice_index old n + carried number_of n after
 
 -- an access that nothing refuses
-pub record Makes (a : Access) (cells cells' : AddressSpace) (frames frames' slots slots' : List ℕ) : Type 0 where
-  pub accepted : refused_in [] cells frames a ≡ None
-  pub cells_are : cells' ≡ after_access [] (grant (wanting (slice_index frames) cells a) (unused_of frames)) a cells
+pub record Makes (files : List (List ℕ)) (a : Access) (cells cells' : AddressSpace) (frames frames' slots slots' : List ℕ) : Type 0 where
+  pub accepted : refused_in files cells frames a ≡ None
+  pub cells_are : cells' ≡ after_access files (grant (wanting (slice_index frames) cells a) (unused_of frames)) a cells
   pub frames_follow : Follows None frame_of frames frames' cells cells'
   pub slots_follow : Follows None slot_of slots slots' cells cells'
 

@@ -1,5 +1,5 @@
 //! Loads and stores on the cells of one space.
-ghost use Rattle.std.specs.Prelude.{◌≡◌, ◌+◌, ◌%◌, ◌<◌, ◌≤◌, ◌^◌, true, [], length, IfOk, IfErr, OnOk, OnErr, IfSome, Some, None};
+ghost use Rattle.std.specs.Prelude.{◌≡◌, ℕ, ◌+◌, ◌%◌, ◌<◌, ◌≤◌, ◌^◌, true, List, length, IfOk, IfErr, OnOk, OnErr, IfSome, Some, None};
 ghost use Rattle.std.specs.Option.{option_map};
 ghost use Rattle.std.specs.FinMap as map;
 ghost use Rattle.page_map.specs.Change.{change};
@@ -13,6 +13,7 @@ ghost use Rattle.plain_spaces.specs.Wants.{refusal_of};
 use crate::owners::Owners;
 use crate::space::AddressSpace;
 use corten_base::{ByteList, PAGE_BYTES, Reply};
+use file_shelf::Shelf;
 use page_map::Cell;
 use std::alloc::{AllocError, Global};
 use std::marker::Model;
@@ -161,7 +162,7 @@ impl AddressSpace {
     fn read(&self, access: Access, out: &mut ByteList)
         requires len { length out.old ≡ access.len }
         requires resident { IsResident self.now access }
-        ensures { out.new ≡ loaded [] self.now access }
+        ensures { (files : List (List ℕ)) → out.new ≡ loaded files self.now access }
     {
         let start = access.start() as usize;
         let len = out.bytes().len();
@@ -176,21 +177,22 @@ impl AddressSpace {
     pub fn load(
         &mut self,
         alloc: Global,
+        shelf: &Shelf,
         frames: &mut Owners,
         slots: &mut Owners,
         access: Access,
     ) -> Result<Reply, Stop>
-        requires whole { IsWhole [] self.old }
+        requires whole { IsWhole shelf.now self.old }
         requires frames { IsCounted frame_of frames.old self.old }
         requires slots { IsCounted slot_of slots.old self.old }
-        ensures bytes { IfOk result (λ reply. reply ≡ Bytes (loaded [] self.old access)) }
-        ensures made { OnOk result (Makes access self.old self.new frames.old frames.new slots.old slots.new) }
-        ensures refused { IfErr result (λ stop. IfSome (refusal_of stop) (λ reply. refused_in [] self.old frames.old access ≡ Some reply)) }
+        ensures bytes { IfOk result (λ reply. reply ≡ Bytes (loaded shelf.now self.old access)) }
+        ensures made { OnOk result (Makes shelf.now access self.old self.new frames.old frames.new slots.old slots.new) }
+        ensures refused { IfErr result (λ stop. IfSome (refusal_of stop) (λ reply. refused_in shelf.now self.old frames.old access ≡ Some reply)) }
         ensures kept { OnErr result (Keeps self.old self.new frames.old frames.new slots.old slots.new) }
     {
-        let plan = self.plan(alloc, frames, access)?;
+        let plan = self.plan(alloc, shelf, frames, access)?;
         let mut bytes = ByteList::of(alloc, &ZEROS[..access.len as usize])?;
-        self.bring_in(plan, frames, slots);
+        self.bring_in(shelf, plan, frames, slots);
         self.read(access, &mut bytes);
         Ok(Reply::Bytes(bytes))
     }
@@ -199,6 +201,7 @@ impl AddressSpace {
     pub fn store(
         &mut self,
         alloc: Global,
+        shelf: &Shelf,
         frames: &mut Owners,
         slots: &mut Owners,
         access: Access,
@@ -206,16 +209,16 @@ impl AddressSpace {
     ) -> Result<Reply, Stop>
         requires write { access.write ≡ true }
         requires len { length bytes.now ≡ access.len }
-        requires whole { IsWhole [] self.old }
+        requires whole { IsWhole shelf.now self.old }
         requires frames { IsCounted frame_of frames.old self.old }
         requires slots { IsCounted slot_of slots.old self.old }
         ensures reply { IfOk result (λ reply. reply ≡ Reply.Ok) }
-        ensures made { OnOk result (Makes (storing access.at bytes.now) self.old self.new frames.old frames.new slots.old slots.new) }
-        ensures refused { IfErr result (λ stop. IfSome (refusal_of stop) (λ reply. refused_in [] self.old frames.old access ≡ Some reply)) }
+        ensures made { OnOk result (Makes shelf.now (storing access.at bytes.now) self.old self.new frames.old frames.new slots.old slots.new) }
+        ensures refused { IfErr result (λ stop. IfSome (refusal_of stop) (λ reply. refused_in shelf.now self.old frames.old access ≡ Some reply)) }
         ensures kept { OnErr result (Keeps self.old self.new frames.old frames.new slots.old slots.new) }
     {
-        let plan = self.plan(alloc, frames, access)?;
-        self.bring_in(plan, frames, slots);
+        let plan = self.plan(alloc, shelf, frames, access)?;
+        self.bring_in(shelf, plan, frames, slots);
         self.write(access, bytes);
         Ok(Reply::Ok)
     }
@@ -224,6 +227,7 @@ impl AddressSpace {
     pub fn fault(
         &mut self,
         alloc: Global,
+        shelf: &Shelf,
         frames: &mut Owners,
         slots: &mut Owners,
         access: Access,
@@ -231,12 +235,12 @@ impl AddressSpace {
         requires frames { IsCounted frame_of frames.old self.old }
         requires slots { IsCounted slot_of slots.old self.old }
         ensures reply { IfOk result (λ reply. reply ≡ Reply.Ok) }
-        ensures made { OnOk result (Makes access self.old self.new frames.old frames.new slots.old slots.new) }
-        ensures refused { IfErr result (λ stop. IfSome (refusal_of stop) (λ reply. refused_in [] self.old frames.old access ≡ Some reply)) }
+        ensures made { OnOk result (Makes shelf.now access self.old self.new frames.old frames.new slots.old slots.new) }
+        ensures refused { IfErr result (λ stop. IfSome (refusal_of stop) (λ reply. refused_in shelf.now self.old frames.old access ≡ Some reply)) }
         ensures kept { OnErr result (Keeps self.old self.new frames.old frames.new slots.old slots.new) }
     {
-        let plan = self.plan(alloc, frames, access)?;
-        self.bring_in(plan, frames, slots);
+        let plan = self.plan(alloc, shelf, frames, access)?;
+        self.bring_in(shelf, plan, frames, slots);
         Ok(Reply::Ok)
     }
 }

@@ -3,18 +3,20 @@ ghost use Rattle.std.specs.Prelude.{◌≡◌, ℕ, ◌+◌, ◌<◌, ◌≤◌,
 ghost use Rattle.std.specs.Option.{option_map, option_and_then};
 ghost use Rattle.std.specs.FinMap as map;
 ghost use Rattle.page_map.specs.Change.{change};
-ghost use Rattle.page_map.specs.Cell.{perm_of, frame_of, slot_of, is_past_end};
+ghost use Rattle.page_map.specs.Cell.{perm_of, frame_of, slot_of, is_past_end, file_page};
+ghost use Rattle.page_map.specs.Cell.{zeros as page_zeros};
 ghost use Rattle.page_map.specs.Takes.{grant};
 ghost use Rattle.page_map.specs.Access.{allows, refused_at};
 ghost use Rattle.plain_spaces.specs.Owners.{unused_of};
 ghost use Rattle.plain_spaces.specs.Reach.{last_page, IsUserAccess, beyond, wanting, refused_in, given, brought, one_at, IsCounted, Leaves, Follows};
 ghost use Rattle.plain_spaces.specs.declared.plan.Want.TheVariants.{Nothing};
-ghost use Rattle.plain_spaces.specs.Wants.{want_of, is_wanting, Suits, IsPlan, refusal_of};
+ghost use Rattle.plain_spaces.specs.Wants.{want_of, is_wanting, HasBody, Suits, IsPlan, refusal_of};
 
 use crate::access::{Access, Stop};
 use crate::owners::Owners;
 use crate::space::AddressSpace;
 use corten_base::{PageBuf, Perm, Reply};
+use file_shelf::{FilePage, Shelf};
 use page_map::Cell;
 use std::alloc::{AllocError, Global};
 use std::mem;
@@ -46,6 +48,17 @@ impl Want {
         match self {
             Want::Nothing => 0,
             Want::Frame | Want::Body(_) => 1,
+        }
+    }
+
+    /// The bytes that are wanted.
+    fn body(self) -> PageBuf
+        requires { HasBody self }
+        ensures { self ≡ Want.Body result }
+    {
+        match self {
+            Want::Body(bytes) => bytes,
+            Want::Nothing | Want::Frame => unreachable!(),
         }
     }
 
@@ -83,17 +96,38 @@ fn is_allowed(write: bool, cell: &Cell) -> bool
     if write { perm.write } else { perm.read }
 }
 
-/// Whether a page is one of a file, wholly past its end. There are no files yet.
-fn is_beyond(cell: &Cell) -> bool
-    ensures { result ≡ is_past_end [] cell.now }
+/// Whether a page is one of a file, wholly past its end.
+fn is_beyond(shelf: &Shelf, cell: &Cell) -> bool
+    ensures { result ≡ is_past_end shelf.now cell.now }
 {
-    matches!(cell, Cell::File { .. })
+    match cell {
+        Cell::File { file, index, .. } => match shelf.page(*file, *index) {
+            FilePage::NoFile | FilePage::PastEnd => true,
+            FilePage::Bytes(_) => false,
+        },
+        Cell::Anon(_) | Cell::Mapped { .. } | Cell::Swapped { .. } => false,
+    }
+}
+
+/// The bytes of a file's page, written at the beginning of a page of zeros.
+fn file_body(shelf: &Shelf, file: u8, index: u64, zeros: PageBuf) -> PageBuf
+    requires { zeros ≡ page_zeros }
+    ensures { result ≡ file_page shelf.now file index }
+{
+    match shelf.page(file, index) {
+        FilePage::Bytes(bytes) => {
+            let mut body = zeros;
+            body.write_at(0, bytes);
+            body
+        }
+        FilePage::NoFile | FilePage::PastEnd => zeros,
+    }
 }
 
 /// What a page wants.
 fn want_of(alloc: Global, frames: &Owners, write: bool, cell: &Cell) -> Result<Want, AllocError>
     requires { IfSome (frame_of cell.now) (λ n. n < length frames.now) }
-    ensures { IfOk result (λ want. want ≡ want_of [] (slice_index frames.now) write cell.now) }
+    ensures { IfOk result (λ want. want ≡ want_of (slice_index frames.now) write cell.now) }
 {
     match cell {
         Cell::Anon(_) | Cell::File { .. } => Ok(Want::Body(PageBuf::zero(alloc)?)),
@@ -103,12 +137,19 @@ fn want_of(alloc: Global, frames: &Owners, write: bool, cell: &Cell) -> Result<W
 }
 
 /// The same page on the frame that it got. It leaves the number that it had.
-fn moved(cell: Cell, frame: u32, want: Want, frames: &mut Owners, slots: &mut Owners) -> Cell
-    requires suits { Suits [] cell want }
+fn moved(
+    shelf: &Shelf,
+    cell: Cell,
+    frame: u32,
+    want: Want,
+    frames: &mut Owners,
+    slots: &mut Owners,
+) -> Cell
+    requires suits { Suits cell want }
     requires wanting { is_wanting want ≡ true }
     requires frame { IfSome (frame_of cell) (λ n. 0 < slice_index frames.old n) }
     requires slot { IfSome (slot_of cell) (λ n. 0 < slice_index slots.old n) }
-    ensures cell { result ≡ given [] (Some frame) cell }
+    ensures cell { result ≡ given shelf.now (Some frame) cell }
     ensures frames { Leaves (frame_of cell) frames.old frames.new }
     ensures slots { Leaves (slot_of cell) slots.old slots.new }
 {
@@ -125,21 +166,34 @@ fn moved(cell: Cell, frame: u32, want: Want, frames: &mut Owners, slots: &mut Ow
             slots.drop_one(slot);
             Cell::Mapped { perm, frame, bytes }
         }
-        Cell::Anon(perm) | Cell::File { perm, .. } => match want {
-            Want::Body(bytes) => Cell::Mapped { perm, frame, bytes },
-            Want::Nothing | Want::Frame => unreachable!(),
+        Cell::Anon(perm) => Cell::Mapped {
+            perm,
+            frame,
+            bytes: want.body(),
+        },
+        Cell::File { perm, file, index } => Cell::Mapped {
+            perm,
+            frame,
+            bytes: file_body(shelf, file, index, want.body()),
         },
     }
 }
 
 impl AddressSpace {
     /// What a page wants that an access is made to, or why it is not made.
-    fn look(&self, alloc: Global, frames: &Owners, write: bool, page: u64) -> Result<Want, Stop>
+    fn look(
+        &self,
+        alloc: Global,
+        shelf: &Shelf,
+        frames: &Owners,
+        write: bool,
+        page: u64,
+    ) -> Result<Want, Stop>
         requires page { page < 2 ^ 52 }
         requires counted { IfSome (option_and_then frame_of (map.get self.now page)) (λ n. n < length frames.now) }
-        ensures wanted { IfOk result (λ want. option_map (want_of [] (slice_index frames.now) write) (map.get self.now page) ≡ Some want) }
-        ensures ok { IfOk result (λ _. refused_at [] write page (map.get self.now page) ≡ None) }
-        ensures refused { IfErr result (λ stop. IfSome (refusal_of stop) (λ reply. refused_at [] write page (map.get self.now page) ≡ Some reply)) }
+        ensures wanted { IfOk result (λ want. option_map (want_of (slice_index frames.now) write) (map.get self.now page) ≡ Some want) }
+        ensures ok { IfOk result (λ _. refused_at shelf.now write page (map.get self.now page) ≡ None) }
+        ensures refused { IfErr result (λ stop. IfSome (refusal_of stop) (λ reply. refused_at shelf.now write page (map.get self.now page) ≡ Some reply)) }
     {
         let address = 4096 * page;
         let Some(cell) = self.get(page) else {
@@ -148,37 +202,49 @@ impl AddressSpace {
         if !is_allowed(write, cell) {
             return Err(Stop::Refused(Reply::Denied(address)));
         }
-        if is_beyond(cell) {
+        if is_beyond(shelf, cell) {
             return Err(Stop::Refused(Reply::Bus(address)));
         }
         Ok(want_of(alloc, frames, write, cell)?)
     }
 
     /// What the last page of an access wants, where it is not the first.
-    fn look_beyond(&self, alloc: Global, frames: &Owners, access: Access) -> Result<Want, Stop>
+    fn look_beyond(
+        &self,
+        alloc: Global,
+        shelf: &Shelf,
+        frames: &Owners,
+        access: Access,
+    ) -> Result<Want, Stop>
         requires { IsCounted frame_of frames.now self.now }
-        ensures wanted { IfOk result (λ want. beyond access (Some Nothing) (option_map (want_of [] (slice_index frames.now) access.write) (map.get self.now (last_page access))) ≡ Some want) }
-        ensures ok { IfOk result (λ _. beyond access None (refused_at [] access.write (last_page access) (map.get self.now (last_page access))) ≡ None) }
-        ensures refused { IfErr result (λ stop. IfSome (refusal_of stop) (λ reply. beyond access None (refused_at [] access.write (last_page access) (map.get self.now (last_page access))) ≡ Some reply)) }
+        ensures wanted { IfOk result (λ want. beyond access (Some Nothing) (option_map (want_of (slice_index frames.now) access.write) (map.get self.now (last_page access))) ≡ Some want) }
+        ensures ok { IfOk result (λ _. beyond access None (refused_at shelf.now access.write (last_page access) (map.get self.now (last_page access))) ≡ None) }
+        ensures refused { IfErr result (λ stop. IfSome (refusal_of stop) (λ reply. beyond access None (refused_at shelf.now access.write (last_page access) (map.get self.now (last_page access))) ≡ Some reply)) }
     {
         if access.last() == access.first() {
             return Ok(Want::Nothing);
         }
-        self.look(alloc, frames, access.write, access.last())
+        self.look(alloc, shelf, frames, access.write, access.last())
     }
 
     /// What the pages of an access want, or why it is not made.
-    pub fn plan(&self, alloc: Global, frames: &Owners, access: Access) -> Result<Plan, Stop>
+    pub fn plan(
+        &self,
+        alloc: Global,
+        shelf: &Shelf,
+        frames: &Owners,
+        access: Access,
+    ) -> Result<Plan, Stop>
         requires { IsCounted frame_of frames.now self.now }
         ensures user { IsUserAccess access }
         ensures nothing_stored { access.stored ≡ [] }
         ensures access { IfOk result (λ plan. plan.access ≡ access) }
-        ensures plan { IfOk result (IsPlan [] self.now (slice_index frames.now)) }
-        ensures ok { IfOk result (λ _. refused_in [] self.now frames.now access ≡ None) }
-        ensures refused { IfErr result (λ stop. IfSome (refusal_of stop) (λ reply. refused_in [] self.now frames.now access ≡ Some reply)) }
+        ensures plan { IfOk result (IsPlan self.now (slice_index frames.now)) }
+        ensures ok { IfOk result (λ _. refused_in shelf.now self.now frames.now access ≡ None) }
+        ensures refused { IfErr result (λ stop. IfSome (refusal_of stop) (λ reply. refused_in shelf.now self.now frames.now access ≡ Some reply)) }
     {
-        let near = self.look(alloc, frames, access.write, access.first())?;
-        let far = self.look_beyond(alloc, frames, access)?;
+        let near = self.look(alloc, shelf, frames, access.write, access.first())?;
+        let far = self.look_beyond(alloc, shelf, frames, access)?;
         let need = near.frames() + far.frames();
         let free = frames.free();
         if free < need {
@@ -190,6 +256,7 @@ impl AddressSpace {
     /// Moves a page to the frame that it got.
     fn move_to(
         &mut self,
+        shelf: &Shelf,
         page: u64,
         frame: u32,
         want: Want,
@@ -197,24 +264,25 @@ impl AddressSpace {
         slots: &mut Owners,
     )
         requires there { IsSome (map.get self.old page) }
-        requires suits { IfSome (map.get self.old page) (λ cell. Suits [] cell want) }
+        requires suits { IfSome (map.get self.old page) (λ cell. Suits cell want) }
         requires wanting { is_wanting want ≡ true }
         requires frames { IsCounted frame_of frames.old self.old }
         requires slots { IsCounted slot_of slots.old self.old }
-        ensures cells { self.new ≡ change self.old page 1 (λ _. option_map (given [] (Some frame))) }
+        ensures cells { self.new ≡ change self.old page 1 (λ _. option_map (given shelf.now (Some frame))) }
         ensures frames { Follows (Some frame) frame_of frames.old frames.new self.old self.new }
         ensures slots { Follows None slot_of slots.old slots.new self.old self.new }
     {
         if let Some(cell) = self.get_mut(page) {
             let perm = permissions(cell);
             let old = mem::replace(cell, Cell::Anon(perm));
-            *cell = moved(old, frame, want, frames, slots);
+            *cell = moved(shelf, old, frame, want, frames, slots);
         }
     }
 
     /// Moves a page to the frame that it got, if it got one.
     fn settle(
         &mut self,
+        shelf: &Shelf,
         page: u64,
         frame: Option<u32>,
         want: Want,
@@ -222,26 +290,26 @@ impl AddressSpace {
         slots: &mut Owners,
     )
         requires there { IsSome (map.get self.old page) }
-        requires suits { IfSome (map.get self.old page) (λ cell. Suits [] cell want) }
+        requires suits { IfSome (map.get self.old page) (λ cell. Suits cell want) }
         requires taken { is_some frame ≡ is_wanting want }
         requires frames { IsCounted frame_of frames.old self.old }
         requires slots { IsCounted slot_of slots.old self.old }
-        ensures cells { self.new ≡ change self.old page 1 (λ _. option_map (given [] frame)) }
+        ensures cells { self.new ≡ change self.old page 1 (λ _. option_map (given shelf.now frame)) }
         ensures frames { Follows frame frame_of frames.old frames.new self.old self.new }
         ensures slots { Follows None slot_of slots.old slots.new self.old self.new }
     {
         if let Some(frame) = frame {
-            self.move_to(page, frame, want, frames, slots);
+            self.move_to(shelf, page, frame, want, frames, slots);
         }
     }
 
     /// Gives each page of a plan the frame that it wants.
-    pub fn bring_in(&mut self, plan: Plan, frames: &mut Owners, slots: &mut Owners)
-        requires planned { IsPlan [] self.old (slice_index frames.old) plan }
+    pub fn bring_in(&mut self, shelf: &Shelf, plan: Plan, frames: &mut Owners, slots: &mut Owners)
+        requires planned { IsPlan self.old (slice_index frames.old) plan }
         requires enough { length (wanting (slice_index frames.old) self.old plan.access) ≤ length (unused_of frames.old) }
         requires frames { IsCounted frame_of frames.old self.old }
         requires slots { IsCounted slot_of slots.old self.old }
-        ensures cells { self.new ≡ brought [] (grant (wanting (slice_index frames.old) self.old plan.access) (unused_of frames.old)) plan.access self.old }
+        ensures cells { self.new ≡ brought shelf.now (grant (wanting (slice_index frames.old) self.old plan.access) (unused_of frames.old)) plan.access self.old }
         ensures frames { Follows None frame_of frames.old frames.new self.old self.new }
         ensures slots { Follows None slot_of slots.old slots.new self.old self.new }
     {
@@ -249,7 +317,7 @@ impl AddressSpace {
         let (first, last) = (access.first(), access.last());
         let near_frame = near.take(frames);
         let far_frame = far.take(frames);
-        self.settle(first, near_frame, near, frames, slots);
-        self.settle(last, far_frame, far, frames, slots);
+        self.settle(shelf, first, near_frame, near, frames, slots);
+        self.settle(shelf, last, far_frame, far, frames, slots);
     }
 }

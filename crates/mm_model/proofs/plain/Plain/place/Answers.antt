@@ -27,7 +27,7 @@ returns-in_default-clause-refused c =
 pub returns-in_default-gap-clause-refused : goal.returns-in_default-gap-clause-refused
 returns-in_default-gap-clause-refused c =
     let m = c.args.mapping.now in
-    let st : State = record { spaces = c.self.inside.spaces; tables = c.self.inside.tables; limits = c.self.inside.limits; files = [] } in
+    let st : State = record { spaces = c.self.inside.spaces; tables = c.self.inside.tables; limits = c.self.inside.limits; files = c.self.inside.shelf } in
     sym (ap (λ st. refusal st c.args.thread (call_of m) c.args.limbo) c.self.view_is)
     ∙ no_gap_there st c.args.thread m c.args.limbo (sym c.is_right.ensures ∙ c.if-not-is_right.false)
     (is_there st c.args.thread m c.args.limbo c.number-space.result c.pages-count.result c.in-Some.cells.now c.number-space.ensures.value c.in-Some.ensures)
@@ -48,7 +48,7 @@ lacking st self number space first count len limbo view is_number is_count = λ 
 pub returns-in-Some-lack_of_tables-clause-refused : goal.returns-in-Some-lack_of_tables-clause-refused
 returns-in-Some-lack_of_tables-clause-refused c =
     let m = c.args.mapping.now in
-    let st : State = record { spaces = c.self.inside.spaces; tables = c.self.inside.tables; limits = c.self.inside.limits; files = [] } in
+    let st : State = record { spaces = c.self.inside.spaces; tables = c.self.inside.tables; limits = c.self.inside.limits; files = c.self.inside.shelf } in
     sym (ap (λ st. refusal st c.args.thread (call_of m) c.args.limbo) c.self.view_is)
     ∙ no_tables_there st c.args.thread m c.args.limbo (sym c.is_right.ensures ∙ c.if-not-is_right.false)
     (is_there st c.args.thread m c.args.limbo c.number-space.result c.pages-count.result c.in-Some.cells.now c.number-space.ensures.value c.in-Some.ensures)
@@ -62,7 +62,7 @@ returns-in-Some-lack_of_tables-clause-refused c =
 pub returns-in-None-clause-placed : goal.returns-in-None-clause-placed
 returns-in-None-clause-placed c =
     let m = c.args.mapping.now in
-    let st : State = record { spaces = c.self.inside.spaces; tables = c.self.inside.tables; limits = c.self.inside.limits; files = [] } in
+    let st : State = record { spaces = c.self.inside.spaces; tables = c.self.inside.tables; limits = c.self.inside.limits; files = c.self.inside.shelf } in
     let at_gap = gap_there st c.args.thread m c.args.limbo c.number-space.result c.pages-count.result c.in-Some.cells.now c.number-space.ensures.value c.in-Some.ensures
     c.gap.result c.pages-count.ensures c.gap.ensures ∙ c.in-Some-gap.is in
     subst (λ st. IsPlaced st c.args.thread m c.args.limbo c.in-Some-gap.first) c.self.view_is (record {

@@ -35,7 +35,7 @@ returns-in_default c = λ thread limbo legal.
 
 -- the state that the machine had
 abbrev before : After-get_mut → State
-before c = record { spaces = c.self.inside.spaces; tables = c.self.inside.tables; limits = c.self.inside.limits; files = [] }
+before c = record { spaces = c.self.inside.spaces; tables = c.self.inside.tables; limits = c.self.inside.limits; files = c.self.inside.shelf }
 
 -- the range is right
 abbrev right : (c : After-get_mut) → is_page_range 4 c.args.at c.args.len ≡ true

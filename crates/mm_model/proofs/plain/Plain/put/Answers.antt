@@ -19,7 +19,7 @@ use Rattle.mm_model.proofs.plain.Plain.put.Goals.{After-unwrap-cells, After-put_
 
 -- the state that the machine had, and the cells of the space
 abbrev before : After-unwrap-cells → State
-before c = record { spaces = c.self.inside.spaces; tables = c.self.inside.tables; limits = c.self.inside.limits; files = [] }
+before c = record { spaces = c.self.inside.spaces; tables = c.self.inside.tables; limits = c.self.inside.limits; files = c.self.inside.shelf }
 
 abbrev here : (c : After-unwrap-cells) → map.get c.self.inside.spaces c.args.mapping.now.space ≡ Some c.unwrap-cells.result.now
 here c = ap (map.get c.self.inside.spaces) (sym c.number.ensures.value) ∙ sym c.get_mut.ensures.value ∙ ap option_copied_mut c.unwrap-cells.ensures
@@ -30,12 +30,12 @@ may c = subst (λ st. MayPut st c.args.mapping.now c.args.first) (sym c.self.vie
 pub put_in-requires-clause-frames : goal.put_in-requires-clause-frames
 put_in-requires-clause-frames c =
     let at = (goal.at.put_in-requires-clause-frames c).After-unwrap-cells in
-    frames_here (before at) refl _ _ _ c.self.invariant c.args.mapping.now.space c.unwrap-cells.result.now (here at)
+    frames_here (before at) _ _ _ c.self.invariant c.args.mapping.now.space c.unwrap-cells.result.now (here at)
 
 pub put_in-requires-clause-slots : goal.put_in-requires-clause-slots
 put_in-requires-clause-slots c =
     let at = (goal.at.put_in-requires-clause-slots c).After-unwrap-cells in
-    slots_here (before at) refl _ _ _ c.self.invariant c.args.mapping.now.space c.unwrap-cells.result.now (here at)
+    slots_here (before at) _ _ _ c.self.invariant c.args.mapping.now.space c.unwrap-cells.result.now (here at)
 
 -- the spaces afterwards
 abbrev lent : (c : After-put_in) → c.get_mut.follows.lender c.put_in.new.cells ≡ map.insert c.self.inside.spaces c.args.mapping.now.space c.put_in.new.cells

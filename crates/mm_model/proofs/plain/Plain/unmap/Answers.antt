@@ -29,7 +29,7 @@ returns-in_default c = λ thread limbo legal.
 
 -- the state that the machine had
 abbrev before : After-get_mut → State
-before c = record { spaces = c.self.inside.spaces; tables = c.self.inside.tables; limits = c.self.inside.limits; files = [] }
+before c = record { spaces = c.self.inside.spaces; tables = c.self.inside.tables; limits = c.self.inside.limits; files = c.self.inside.shelf }
 
 -- the range is right
 abbrev right : (c : After-get_mut) → is_page_range 4 c.args.at c.args.len ≡ true
@@ -43,10 +43,10 @@ returns-in_default-get_mut c =
     ∙ absent (before at) (call.Unmap c.number-number.result c.args.at c.args.len) c.number-number.result _ _ _ _ (unmap_op (before at) c.number-number.result c.args.at c.args.len) thread limbo (right at) (sym c.in_default-get_mut.ensures.value))
 
 pub release-requires-clause-frames : goal.release-requires-clause-frames
-release-requires-clause-frames c = frames_here (before (goal.at.release-requires-clause-frames c).After-get_mut) refl _ _ _ c.self.invariant c.number-number.result c.in-Some-get_mut.cells.now (sym c.in-Some-get_mut.ensures.value)
+release-requires-clause-frames c = frames_here (before (goal.at.release-requires-clause-frames c).After-get_mut) _ _ _ c.self.invariant c.number-number.result c.in-Some-get_mut.cells.now (sym c.in-Some-get_mut.ensures.value)
 
 pub release-requires-clause-slots : goal.release-requires-clause-slots
-release-requires-clause-slots c = slots_here (before (goal.at.release-requires-clause-slots c).After-get_mut) refl _ _ _ c.self.invariant c.number-number.result c.in-Some-get_mut.cells.now (sym c.in-Some-get_mut.ensures.value)
+release-requires-clause-slots c = slots_here (before (goal.at.release-requires-clause-slots c).After-get_mut) _ _ _ c.self.invariant c.number-number.result c.in-Some-get_mut.cells.now (sym c.in-Some-get_mut.ensures.value)
 
 -- the spaces, the cells and the tables afterwards
 abbrev lent : (c : After-forget) → c.get_mut.follows.lender c.release.new.self ≡ map.insert c.self.inside.spaces c.number-number.result c.release.new.self

@@ -12,8 +12,8 @@ returns-clause-made c =
     record {
       accepted = c.in_ok-plan.ensures.ok;
       cells_are = c.bring_in.ensures.cells
-          ∙ ap (λ a. brought [] (grant (wanting (slice_index c.args.frames.now) c.args.self.now a) (unused_of c.args.frames.now)) a c.args.self.now) c.in_ok-plan.ensures.access
-          ∙ brought_after [] c.args.self.now c.args.access grants c.plan.ensures.nothing_stored;
+          ∙ ap (λ a. brought c.args.shelf.now (grant (wanting (slice_index c.args.frames.now) c.args.self.now a) (unused_of c.args.frames.now)) a c.args.self.now) c.in_ok-plan.ensures.access
+          ∙ brought_after c.args.shelf.now c.args.self.now c.args.access grants c.plan.ensures.nothing_stored;
       frames_follow = c.bring_in.ensures.frames;
       slots_follow = c.bring_in.ensures.slots;
     }

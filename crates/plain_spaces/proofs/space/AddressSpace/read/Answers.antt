@@ -18,17 +18,17 @@ abbrev near : (c : After-write_at) → c.min-near.result ≡ min c.args.access.l
 near c = c.min-near.ensures ∙ ap (λ n. min n (4096 - c.start-start.result)) (ap length c.bytes-len.ensures.value ∙ c.requires.len)
 
 pub returns-then-near-len : goal.returns-then-near-len
-returns-then-near-len c =
+returns-then-near-len c = λ files.
     let at = (goal.at.returns-then-near-len c).After-write_at in
     let len : length c.bytes-len.result.now ≡ c.args.access.len = ap length c.bytes-len.ensures.value ∙ c.requires.len in
     c.write_at-then-near-len.ensures
     ∙ (λ i. bytes_after_write (head at i) c.min-near.result (take (length c.bytes-len.result.now - c.min-near.result) ((c.bytes-then-near-len.ensures ∙ ap (λ page. bytes_of (map.get c.args.self.now page)) c.last.ensures.value) i)))
-    ∙ read_two [] c.args.self.now c.args.access c.first.ensures.user.some c.first.ensures.user.few c.requires.resident c.args.out.now c.requires.len c.start-start.result c.min-near.result c.start-start.ensures.value (near at)
+    ∙ read_two files c.args.self.now c.args.access c.first.ensures.user.some c.first.ensures.user.few c.requires.resident c.args.out.now c.requires.len c.start-start.result c.min-near.result c.start-start.ensures.value (near at)
     (omega (arith, len, c.if-near-len.true)) (length c.bytes-len.result.now - c.min-near.result) (omega (arith, len))
 
 pub returns-else-near-len : goal.returns-else-near-len
-returns-else-near-len c =
+returns-else-near-len c = λ files.
     let at = (goal.at.returns-else-near-len c).After-write_at in
     head at
-    ∙ read_one [] c.args.self.now c.args.access c.first.ensures.user.some c.first.ensures.user.few c.requires.resident c.args.out.now c.requires.len c.start-start.result c.min-near.result c.start-start.ensures.value (near at)
+    ∙ read_one files c.args.self.now c.args.access c.first.ensures.user.some c.first.ensures.user.few c.requires.resident c.args.out.now c.requires.len c.start-start.result c.min-near.result c.start-start.ensures.value (near at)
     (omega (arith, ap length c.bytes-len.ensures.value, c.requires.len, c.if-near-len.false))

@@ -13,8 +13,8 @@ use Rattle.plain_spaces.proofs.space.AddressSpace.settle.Goals as goal
 pub returns-in_default-clause-cells : goal.returns-in_default-clause-cells
 returns-in_default-clause-cells c =
     go (map.get c.args.self.now c.args.page) refl c.requires.there c.requires.suits
-    ∙ ap (λ o. change c.args.self.now c.args.page 1 (λ _. option_map (given [] o))) (sym c.in_default.is)
+    ∙ ap (λ o. change c.args.self.now c.args.page 1 (λ _. option_map (given c.args.shelf.now o))) (sym c.in_default.is)
   where
-    go : (o : Option Cell) → map.get c.args.self.now c.args.page ≡ o → IsSome o → IfSome o (λ cell. Suits [] cell c.args.want) → c.args.self.now ≡ change c.args.self.now c.args.page 1 (λ _. option_map (given [] None))
+    go : (o : Option Cell) → map.get c.args.self.now c.args.page ≡ o → IsSome o → IfSome o (λ cell. Suits cell c.args.want) → c.args.self.now ≡ change c.args.self.now c.args.page 1 (λ _. option_map (given c.args.shelf.now None))
     go None e t s = absurd (false≢true t)
-    go (Some cell) e t s = stays [] c.args.self.now c.args.page cell c.args.want e s (sym c.requires.taken ∙ ap is_some c.in_default.is)
+    go (Some cell) e t s = stays c.args.shelf.now c.args.self.now c.args.page cell c.args.want e s (sym c.requires.taken ∙ ap is_some c.in_default.is)

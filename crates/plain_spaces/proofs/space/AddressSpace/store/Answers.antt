@@ -15,10 +15,10 @@ abbrev grants : After-write → Grant
 grants c = grant (wanting (slice_index c.args.frames.now) c.args.self.now (storing c.args.access.at c.args.bytes.now)) (unused_of c.args.frames.now)
 
 -- the cells once the pages have their frames, as for the access that stores
-abbrev brought_are : (c : After-write) → c.bring_in.new.self ≡ brought [] (grants c) (storing c.args.access.at c.args.bytes.now) c.args.self.now
+abbrev brought_are : (c : After-write) → c.bring_in.new.self ≡ brought c.args.shelf.now (grants c) (storing c.args.access.at c.args.bytes.now) c.args.self.now
 brought_are c = c.bring_in.ensures.cells
-    ∙ ap (λ a. brought [] (grant (wanting (slice_index c.args.frames.now) c.args.self.now a) (unused_of c.args.frames.now)) a c.args.self.now) c.in_ok-plan.ensures.access
-    ∙ sym (λ i. brought [] (grant (wanting (slice_index c.args.frames.now) c.args.self.now (record { at = c.args.access.at; len = c.requires.len i; write = sym c.requires.write i; stored = c.args.access.stored })) (unused_of c.args.frames.now))
+    ∙ ap (λ a. brought c.args.shelf.now (grant (wanting (slice_index c.args.frames.now) c.args.self.now a) (unused_of c.args.frames.now)) a c.args.self.now) c.in_ok-plan.ensures.access
+    ∙ sym (λ i. brought c.args.shelf.now (grant (wanting (slice_index c.args.frames.now) c.args.self.now (record { at = c.args.access.at; len = c.requires.len i; write = sym c.requires.write i; stored = c.args.access.stored })) (unused_of c.args.frames.now))
     (record { at = c.args.access.at; len = c.requires.len i; write = sym c.requires.write i; stored = c.args.access.stored }) c.args.self.now)
 
 -- and once the bytes are stored
@@ -28,10 +28,10 @@ stored_are c = c.write.ensures
 
 pub returns-clause-made : goal.returns-clause-made
 returns-clause-made c = record {
-  accepted = (λ i. refused_in [] c.args.self.now c.args.frames.now (record { at = c.args.access.at; len = c.requires.len i; write = sym c.requires.write i; stored = c.args.access.stored })) ∙ c.in_ok-plan.ensures.ok;
+  accepted = (λ i. refused_in c.args.shelf.now c.args.self.now c.args.frames.now (record { at = c.args.access.at; len = c.requires.len i; write = sym c.requires.write i; stored = c.args.access.stored })) ∙ c.in_ok-plan.ensures.ok;
   cells_are = stored_are c
       ∙ ap (λ cells. change cells (first_page (storing c.args.access.at c.args.bytes.now)) (page_count (storing c.args.access.at c.args.bytes.now)) (λ page. option_map (stored_at c.args.access.at c.args.bytes.now page))) (brought_are c)
-      ∙ stored_after [] c.args.self.now c.args.access.at c.args.bytes.now (grants c)
+      ∙ stored_after c.args.shelf.now c.args.self.now c.args.access.at c.args.bytes.now (grants c)
       (subst (λ n. 0 < n) (sym c.requires.len) c.plan.ensures.user.some) (subst (λ n. n ≤ 4096) (sym c.requires.len) c.plan.ensures.user.few) c.requires.whole;
   frames_follow = subst (Follows None frame_of c.args.frames.now c.bring_in.new.frames c.args.self.now) (sym (stored_are c))
       (frames_stored c.args.access.at c.args.bytes.now c.args.self.now c.bring_in.new.self _ _ _ _ c.bring_in.ensures.frames);
