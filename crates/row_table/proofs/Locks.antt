@@ -1,0 +1,223 @@
+-- Grab and release keep the rule.
+use Rattle.std.proofs.Common.{◌≡◌, ◌≢◌, ℕ, ◌+◌, ◌<◌, ◌≤◌, ◌⊎◌, eqb, not, cond, Bool, true, false, List, [], ◌∷◌, ◌++◌, map, length, get_or, set, sym, refl, ap, ◌∙◌, subst, inl, inr, ⊎_elim, arith, length-set, eq-eqb, ne_eqb, Option, Some, None}
+use Rattle.std.specs.List.{Contains, filter}
+use Rattle.std.proofs.lemmas.List.{map-append}
+use Rattle.std.proofs.lemmas.List.Elements.{Contains-push_cases}
+use mathlib.Core.Option.{some, none}
+use native.Mathlib.Decide.{ℕ_discrete}
+use mathlib.Core.Logic.{dite}
+use mathlib.Core.Path.{Path}
+use prog.Atomic.{either}
+use lib.ListN.{get_elem?}
+use Rattle.atomic_table.specs.Table.{rest, Allows, step, takes, keeps, gives}
+use Rattle.atomic_table.proofs.Lists.{set_else}
+use Rattle.atomic_table.proofs.Lists as lists
+use Rattle.table_place.specs.declared.Place.{Place}
+use Rattle.walk_core.specs.declared.event.Event.TheVariants.{Grab, Release}
+use Rattle.walk_core.specs.declared.pass.PassCore.{PassCore}
+use Rattle.walk_core.specs.Words.{lock_at, stale}
+use Rattle.walk_core.specs.Lists.{times, Has, without}
+use Rattle.walk_core.specs.Core.{Core, pass_at, idle, times_in_hand}
+use Rattle.walk_core.specs.Guards.{StandsOn, HoldsLinker}
+use Rattle.std.proofs.lemmas.Bool.{cases_lt}
+use Rattle.std.proofs.lemmas.List.{get_or_past}
+use Rattle.walk_core.proofs.RowLists.{times-nil}
+use Rattle.walk_core.specs.Good.{Good, LockSays, says_free, says_held, says_stale}
+use Rattle.walk_core.proofs.Facts.{free_unheld, free_linked}
+use Rattle.walk_core.proofs.KeepsLocks.{grabbed_there}
+use Rattle.walk_core.proofs.Roomy.{held_room}
+use Rattle.row_layout.specs.declared.places.Layout.{Layout}
+use Rattle.row_table.specs.declared.view.PassView.{PassView}
+use Rattle.row_table.specs.declared.view.HeldRow.{HeldRow}
+use Rattle.row_table.specs.declared.plan.Content.{Content}
+use Rattle.row_table.specs.declared.plan.Content.TheVariants.{Row, Book}
+use Rattle.row_table.specs.Plan.{Meaning}
+use Rattle.row_table.specs.Rows.{row_words, place_at, lock_of}
+use Rattle.row_table.specs.Rule.{Slot, Homes, Seat, Table, view, IsOne, row_part, core_of, Agrees, IsHeldRow, Knows, Holds}
+use Rattle.row_table.specs.Moves.{grabbed, looked, got, released, NotInHand, Finds, grab_says, grab_told, release_told, MayGrab, Fits}
+use Rattle.row_table.proofs.Shown.{ShowSame, lock_shows}
+use Rattle.row_table.proofs.Frames.{RowHome, moved_here, knows_shown, contents_locked, home_of, home_moves}
+use Rattle.row_table.proofs.Views.{kept, rows_without, pass_is, knows_it, is_linked, not_in_hand, guard_grab, has_held}
+
+-- a pass that holds a row is there
+pub held_below : (c : Core) (p r : ℕ) → Good c → Has (pass_at c p).held r → p < c.count
+held_below c p r g has = ⊎_elim (λ (less : p < c.count). less)
+    (λ past. let all = g.sizes.passes in let none = ap (λ (u : PassCore). times r u.held) (get_or_past c.passes p idle (omega arith)) ∙ times-nil r in absurd (omega arith)) (cases_lt p c.count)
+
+-- a row's lock word is at most that of a row that nobody may take
+lock_small : (c : Core) (r w few : ℕ) → few < 256 → ((p : ℕ) → Has (pass_at c p).held r → p < few) → LockSays c r w → w ≤ stale
+lock_small c r w few small there (says_free z t) = omega arith
+lock_small c r w few small there (says_held p shown has) = let h = there p has in omega arith
+lock_small c r w few small there (says_stale shown out) = omega arith
+
+module _ {R B E : Type 0} (M : Meaning R B E) where
+  -- what a pass that holds one row more knows
+  holds_more : (k : Layout) (first : B) (ws us : List ℕ) (b : B) (v : PassView R B E) (r : ℕ) (x : R) → ShowSame k ws us → r < k.rows → M.agrees b (place_at ws r) (row_words ws r) x
+      → Knows M k first ws b v → Knows M k first us b (got v r (place_at ws r) (row_words ws r) x)
+  holds_more k first ws us b v r x shows less agrees old =
+      let now = knows_shown M k first ws us b v shows old in
+      let g : HeldRow R = grabbed r (place_at ws r) (row_words ws r) x in
+      let w : PassView R B E = got v r (place_at ws r) (row_words ws r) x in
+      let z = shows.rows r less in record {
+        there = now.there;
+        epoch = now.epoch;
+        held = map-append row_part v.rows (g ∷ []) ∙ ap (λ (l : List ℕ). l ++ r ∷ []) now.held;
+        rows = λ y i. ⊎_elim
+            (λ (j : Contains v.rows y). let o = now.rows y j in record { there = o.there; shown = o.shown; place = o.place; agrees = o.agrees })
+            (λ (e : g ≡ y). subst (λ (u : HeldRow R). IsHeldRow M k us b w u) e (record { there = less; shown = z.words; place = z.place; agrees = λ _. record { found = λ _. agrees; given = λ f. absurd (cc) } }))
+            (Contains-push_cases v.rows g y i);
+        granted = now.granted;
+        hand = now.hand;
+        found = now.found;
+        origin = now.origin;
+        seen = now.seen;
+        mine = now.mine;
+      }
+
+  -- what a pass that holds one row less knows
+  holds_less : (k : Layout) (first : B) (ws us : List ℕ) (b : B) (v : PassView R B E) (r : ℕ) → ShowSame k ws us → Knows M k first ws b v → Knows M k first us b (released v r)
+  holds_less k first ws us b v r shows old =
+      let now = knows_shown M k first ws us b v shows old in record {
+        there = now.there;
+        epoch = now.epoch;
+        held = rows_without r v.rows ∙ ap (without r) now.held;
+        rows = λ y i. let o = now.rows y (kept (λ (u : HeldRow R). not (eqb u.row r)) v.rows y i).1 in record { there = o.there; shown = o.shown; place = o.place; agrees = o.agrees };
+        granted = now.granted;
+        hand = now.hand;
+        found = now.found;
+        origin = now.origin;
+        seen = now.seen;
+        mine = now.mine;
+      }
+
+  -- what a pass may leave in a row agrees with the book
+  fitting : (k : Layout) (first : B) (ws : List ℕ) (b : B) (v : PassView R B E) (r : ℕ) (x : R) → Knows M k first ws b v → NotInHand v r → Fits M v r x → M.agrees b (place_at ws r) (row_words ws r) x
+  fitting k first ws b v r x know linked fits =
+      let y : HeldRow R = fits.known in let o = know.rows y fits.held in
+      let agrees : Agrees M b v.last y = o.agrees (ap (λ (q : ℕ). times_in_hand q v.core) fits.same_row ∙ linked) in
+      let at : M.agrees b y.place y.words x = ⊎_elim
+      (λ (z : (y.is_given ≡ false) × (x ≡ y.found) × (y.words ≡ y.words_found)). subst (λ (u : R). M.agrees b y.place y.words u) (sym z.1) (subst (λ (ws : List ℕ). M.agrees b y.place ws y.found) (sym z.2) (agrees.found z.0)))
+      (λ (z : (y.is_given ≡ true) × ((book : B) × (v.last ≡ Some book) × M.agrees book y.place y.words x)). agrees.given z.0 z.1.0 z.1.1 y.words x z.1.2)
+      fits.content_fits in
+      subst (λ (q : ℕ). M.agrees b (place_at ws q) (row_words ws q) x) fits.same_row
+      (subst (λ (p : Place). M.agrees b p (row_words ws y.row) x) (sym o.place) (subst (λ (xs : List ℕ). M.agrees b y.place xs x) (sym o.shown) at))
+
+  pub grabs : (k : Layout) (first : B) (slots id : ℕ) (m : Seat R B E) (n r : ℕ) → IsOne n m → MayGrab (view m) r
+      → Allows (Holds M k first) slots id m (lock_at r) (λ x. either (eqb x 0) (n + 1) x) (grab_told (step slots (lock_at r) 0 (n + 1) none) m)
+  grabs k first slots id m n r one may s h long me _ =
+      let v : PassView R B E = view m in
+      let me' : get_elem? s.views id ≡ some (v ∷ []) = me ∙ ap some one.0 in
+      let mine : get_elem? h.passes v.number ≡ some v = (h.seats id (v ∷ []) me' 0 v refl).0 in
+      let c : Core = core_of M k s.words h.passes h.free h.book in
+      let found : ℕ = get_or s.words (lock_at r) 0 in
+      let guard : StandsOn v.core r ⊎ HoldsLinker c v.core r = guard_grab M k first s h v mine r may in
+      let is = pass_is M k first s h v mine in
+      let less : r < k.rows = grabbed_there c v.number r h.good (subst (λ (u : PassCore). StandsOn u r ⊎ HoldsLinker c u r) (sym is) guard) in
+      let wide = h.good.sizes.words in let few = h.good.sizes.bounds.count_high in
+      let near : lock_at r < length s.words = omega arith in
+      let slots_are = h.slots in
+      let know = h.knows v.number v mine in
+      let place : Place = place_at s.words r in let words : List ℕ = row_words s.words r in
+      dite (ℕ_discrete found 0)
+      (λ hit. let t = h.contents.linked r less hit in let w : PassView R B E = got v r place words t.0 in
+      let number : either (eqb found 0) (n + 1) found ≡ n + 1 = ap (λ b. either b (n + 1) found) (eq-eqb found 0 hit) in
+      let linked = free_linked h.good.locks.rows r less hit in
+      let unheld = free_unheld h.good.locks.rows r hit v.number in
+      let few_passes = know.there in let same_number = one.1 in (
+        w ∷ [],
+        takes r (Some (Row t.0)),
+        t.1,
+        moved_here M k first s h id v w (Grab n r) (set s.homes r none) me' (sym one.1) refl guard
+            (sym (ap (λ b. cond b w.core v.core) (eq-eqb found 0 hit)))
+            refl refl (length-set s.homes r none)
+            (contents_locked M k s.words h.book r (either (eqb found 0) (n + 1) found) s.homes (set s.homes r none) less near h.contents
+            (λ q ne. set_else s.homes r q none ne)
+            (record { linked = λ z. absurd (omega arith); others = λ z. absurd (omega arith) }))
+            (lock_shows k s.words r (either (eqb found 0) (n + 1) found) less)
+            (holds_more k first s.words (set s.words (lock_at r) (either (eqb found 0) (n + 1) found)) h.book v r t.0 (lock_shows k s.words r (either (eqb found 0) (n + 1) found) less) less t.2 know),
+        λ q same. let e : r ≡ q = omega arith in
+            subst (grab_says m found (w ∷ [], (r, Some (Row t.0)) ∷ m.1)) e (
+              (λ _. (
+                record {
+                  place = place;
+                  words = words;
+                  content = t.0;
+                  linked = not_in_hand M k first s h v mine r linked;
+                  once = λ has. let there = has_held M k first s h v mine r has in omega arith;
+                },
+                refl,
+              )),
+              λ z. absurd (z hit),
+            ),
+      ))
+      (λ miss. let w : PassView R B E = looked v r place None found in
+      let number : either (eqb found 0) (n + 1) found ≡ found = ap (λ b. either b (n + 1) found) (ne_eqb found 0 miss) in
+      let shows = lock_shows k s.words r (either (eqb found 0) (n + 1) found) less in
+      let now = knows_shown M k first s.words (set s.words (lock_at r) (either (eqb found 0) (n + 1) found)) h.book v shows know in (
+        w ∷ [],
+        keeps,
+        tt,
+        moved_here M k first s h id v w (Grab n r) s.homes me' (sym one.1) refl guard
+            (sym (ap (λ b. cond b (record v.core { held = v.core.held ++ r ∷ [] }) v.core) (ne_eqb found 0 miss)))
+            refl refl refl
+            (contents_locked M k s.words h.book r (either (eqb found 0) (n + 1) found) s.homes s.homes less near h.contents
+            (λ q ne. refl)
+            (subst (RowHome M k (set s.words (lock_at r) (either (eqb found 0) (n + 1) found)) h.book s.homes r) (sym number)
+            (home_moves M k s.words (set s.words (lock_at r) (either (eqb found 0) (n + 1) found)) h.book h.book s.homes s.homes r found (shows.rows r less) refl (λ _ _ a. a) (home_of M h.contents r less))))
+            shows
+            (record { there = now.there; epoch = now.epoch; held = now.held; rows = λ y i. let o = now.rows y i in record { there = o.there; shown = o.shown; place = o.place; agrees = o.agrees }; granted = now.granted; hand = now.hand; found = now.found; origin = now.origin; seen = now.seen; mine = now.mine }),
+        λ q same. let e : r ≡ q = omega arith in
+            subst (grab_says m found (w ∷ [], m.1)) e
+            ((λ z. absurd (miss z)), λ _. (place, lock_small c r found k.passes (omega arith) (λ p has. held_below c p r h.good has) (h.good.locks.rows.each r less), refl)),
+      ))
+
+  pub releases : (k : Layout) (first : B) (slots id : ℕ) (m : Seat R B E) (n r : ℕ) (x : R) → IsOne n m → Has (view m).core.held r → NotInHand (view m) r → Fits M (view m) r x → m.1 ≡ (r, Some (Row x)) ∷ rest m.1
+      → Allows (Holds M k first) slots id m (lock_at r) (λ _. 0) (λ _. release_told (step slots (lock_at r) 0 0 none) m 0)
+  releases k first slots id m n r x one held linked fits front =
+      let v : PassView R B E = view m in let cs : List (ℕ × Slot R B) = rest m.1 in
+      let is : Path (Seat R B E) (v ∷ [], (r, Some (Row x)) ∷ cs) m = λ i. (sym one.0 i, sym front i) in
+      subst (λ (y : Seat R B E). Allows (Holds M k first) slots id y (lock_at r) (λ _. 0) (λ _. release_told (step slots (lock_at r) 0 0 none) y 0)) is
+      (λ s h long me _.
+      let mine : get_elem? h.passes v.number ≡ some v = (h.seats id (v ∷ []) me 0 v refl).0 in
+      let know = h.knows v.number v mine in
+      let in_tree = is_linked M k first s h v mine r held linked in
+      let less : r < k.rows = in_tree.there in
+      let wide = h.good.sizes.words in let few = h.good.sizes.bounds.count_high in
+      let near : lock_at r < length s.words = omega arith in
+      let slots_are = h.slots in
+      let inside : r < length s.homes = omega arith in
+      let shows = lock_shows k s.words r 0 less in
+      let homes : Homes R B = set s.homes r (some (Some (Row x))) in
+      let w : PassView R B E = released v r in (
+        w ∷ [],
+        gives,
+        tt,
+        moved_here M k first s h id v w (Release n r) homes me (sym one.1) refl (held, in_tree) refl refl refl (length-set s.homes r (some (Some (Row x))))
+            (contents_locked M k s.words h.book r 0 s.homes homes less near h.contents
+            (λ q ne. set_else s.homes r q (some (Some (Row x))) ne)
+            (record {
+              linked = λ _. (
+                x,
+                lists.set_here s.homes r (some (Some (Row x))) inside,
+                (let z = shows.rows r less in subst (λ (p : Place). M.agrees h.book p (row_words (set s.words (lock_at r) 0) r) x) (sym z.place)
+                    (subst (λ (xs : List ℕ). M.agrees h.book (place_at s.words r) xs x) (sym z.words) (fitting k first s.words h.book v r x know linked fits))),
+              );
+              others = λ z. absurd (omega arith);
+            }))
+            shows
+            (holds_less k first s.words (set s.words (lock_at r) 0) h.book v r shows know),
+        λ q same. let e : r ≡ q = omega arith in ap (λ (y : ℕ). (released v y ∷ [], cs)) e,
+      ))
+
+  -- the same where the place and the number are known by equations
+  pub grabs_at : (k : Layout) (first : B) (slots id : ℕ) (m : Seat R B E) (n r i a : ℕ) → i ≡ lock_at r → a ≡ n → IsOne n m → MayGrab (view m) r
+      → Allows (Holds M k first) slots id m i (λ x. either (eqb x 0) (a + 1) x) (grab_told (step slots i 0 (a + 1) none) m)
+  grabs_at k first slots id m n r i a at is one may =
+      subst (λ (j : ℕ). Allows (Holds M k first) slots id m j (λ x. either (eqb x 0) (a + 1) x) (grab_told (step slots j 0 (a + 1) none) m)) (sym at)
+      (subst (λ (b : ℕ). Allows (Holds M k first) slots id m (lock_at r) (λ x. either (eqb x 0) (b + 1) x) (grab_told (step slots (lock_at r) 0 (b + 1) none) m)) (sym is)
+      (grabs k first slots id m n r one may))
+
+  pub releases_at : (k : Layout) (first : B) (slots id : ℕ) (m : Seat R B E) (n r i : ℕ) (x : R) → i ≡ lock_at r → IsOne n m → Has (view m).core.held r → NotInHand (view m) r → Fits M (view m) r x → m.1 ≡ (r, Some (Row x)) ∷ rest m.1
+      → Allows (Holds M k first) slots id m i (λ _. 0) (λ _. release_told (step slots i 0 0 none) m 0)
+  releases_at k first slots id m n r i x at one held linked fits front =
+      subst (λ (j : ℕ). Allows (Holds M k first) slots id m j (λ _. 0) (λ _. release_told (step slots j 0 0 none) m 0)) (sym at) (releases k first slots id m n r x one held linked fits front)

@@ -1,0 +1,54 @@
+use Rattle.std.proofs.Common.{◌≡◌, rules, arith, ℕ, ◌+◌, ◌<◌, List, [], ◌∷◌, ◌++◌, length, drop, refl, sym, ap, ◌∙◌, subst, true, false, Some, None}
+use Rattle.atomic_table.specs.Table.{rest}
+use Rattle.walk_core.specs.Lists.{times, Has}
+use Rattle.row_table.specs.declared.view.PassView.{PassView}
+use Rattle.row_table.specs.declared.plan.Content.TheVariants.{Row}
+use Rattle.row_table.specs.Rule.{Slot, Seat, view, SameRows}
+use Rattle.row_table.specs.Stack.{outs, carried, AreRows}
+use Rattle.row_table.specs.Moves.{released, NotInHand, Fits}
+use Rattle.row_table.proofs.Locks.{releases_at}
+use Rattle.row_table.proofs.Told.{Kept, kept_by, one_of, view_of, slots_of, front_of, put_in, carried_row, not_carried, carries_less, rows_less}
+use Rattle.row_table.proofs.pass.Pass.release.Goals as goal
+
+pub bring-requires-clause-there : goal.bring-requires-clause-there
+bring-requires-clause-there g c = carried_row c.args.self.now.rows c.args.row (view c.args.self.now.seat.me).core.held c.args.self.now.stack.items (view c.args.self.now.seat.me).core.has_book c.args.self.now.carries c.requires.held
+
+pub store-requires : goal.store-requires
+store-requires g c = let p = c.args.self.now in
+    let front : c.bring.new.seat.me.1 ≡ (c.args.row, None) ∷ outs c.bring.ensures.front.0 = c.bring.ensures.stacked ∙ ap outs c.bring.ensures.front.1 in
+    let is = put_in p.number p.seat.me c.bring.new.seat.me c.put_row.new.seat.me _ _ _ p.one c.bring.ensures.same.0 front c.put_row.ensures.seat in
+    let sees : view c.put_row.new.seat.me ≡ view p.seat.me = view_of _ _ _ is in (
+      search rules,
+      let wide = c.args.iron.now.sized.0 in let at = c.lock-word.ensures in omega arith,
+      releases_at g.P.Plan.meaning _ _ _ _ _ _ c.args.row _ c.args.content c.lock-word.ensures (one_of _ _ _ _ is p.one.1)
+          (subst (λ (v : PassView g.row.P-Row.Denot g.row.P-Book.Denot g.row.P-Entry.Denot). Has v.core.held c.args.row) (sym sees) c.requires.held)
+          (subst (λ (v : PassView g.row.P-Row.Denot g.row.P-Book.Denot g.row.P-Entry.Denot). NotInHand v c.args.row) (sym sees) c.requires.linked)
+          (subst (λ (v : PassView g.row.P-Row.Denot g.row.P-Book.Denot g.row.P-Entry.Denot). Fits g.P.Plan.meaning v c.args.row c.args.content) (sym sees) c.requires.fits)
+          (front_of _ _ _ _ is),
+    )
+
+pub invariant_of-self : goal.invariant_of-self
+invariant_of-self g c = let p = c.args.self.now in let more : List ℕ = c.bring.ensures.front.0 in
+    let front : c.bring.new.seat.me.1 ≡ (c.args.row, None) ∷ outs more = c.bring.ensures.stacked ∙ ap outs c.bring.ensures.front.1 in
+    let is = put_in p.number p.seat.me c.bring.new.seat.me c.put_row.new.seat.me _ _ _ p.one c.bring.ensures.same.0 front c.put_row.ensures.seat in
+    let now = c.store.ensures.2 c.args.row c.lock-word.ensures ∙ ap (λ (y : Seat g.row.P-Row.Denot g.row.P-Book.Denot g.row.P-Entry.Denot). (released (view y) c.args.row ∷ [], rest y.1)) is in
+    let left : c.pop_front.new.self.items ≡ more = c.pop_front.ensures.rest ∙ ap (drop 1) c.bring.ensures.front.1 in
+    let same : SameRows (c.args.row ∷ more) (carried p.rows (view p.seat.me).core.held (view p.seat.me).core.has_book) = λ r. ap (times r) (sym c.bring.ensures.front.1) ∙ (c.bring.ensures.rows r ∙ p.carries r) in
+    let k : Kept p.number p.rows c.store.new.seat.me c.pop_front.new.self.items = subst (Kept p.number p.rows c.store.new.seat.me) (sym left)
+    (kept_by p.number p.rows c.store.new.seat.me more (released (view p.seat.me) c.args.row) now p.one.1
+    (carries_less p.rows c.args.row (view p.seat.me).core.held more (view p.seat.me).core.has_book p.held c.requires.held same) (rows_less p.rows c.args.row (view p.seat.me).core.held p.held)) in
+    record {
+      one = k.one;
+      slots = ap (λ (x : _). x.slots) (c.store.ensures.0 ∙ (c.put_row.ensures.table ∙ c.bring.ensures.same.1)) ∙ p.slots;
+      stacked = k.stacked;
+      carries = k.carries;
+      held = k.held;
+      few = p.few;
+      room = (let a = c.pop_front.ensures.capacity in let b = c.bring.ensures.room.1 in let r = p.room in omega arith);
+    }
+
+pub returns-clause-releases : goal.returns-clause-releases
+returns-clause-releases g c = let p = c.args.self.now in
+    let front : c.bring.new.seat.me.1 ≡ (c.args.row, None) ∷ outs c.bring.ensures.front.0 = c.bring.ensures.stacked ∙ ap outs c.bring.ensures.front.1 in
+    let is = put_in p.number p.seat.me c.bring.new.seat.me c.put_row.new.seat.me _ _ _ p.one c.bring.ensures.same.0 front c.put_row.ensures.seat in
+    view_of _ _ _ (c.store.ensures.2 c.args.row c.lock-word.ensures) ∙ ap (λ (v : PassView g.row.P-Row.Denot g.row.P-Book.Denot g.row.P-Entry.Denot). released v c.args.row) (view_of _ _ _ is)

@@ -1,0 +1,80 @@
+use Rattle.std.proofs.Common.{◌≡◌, rules, arith, ℕ, ◌+◌, ◌<◌, List, [], ◌∷◌, ◌++◌, length, refl, sym, ap, ◌∙◌, subst, true, false, Some, None}
+use Rattle.walk_core.specs.Lists.{times}
+use Rattle.walk_core.specs.Words.{book_at}
+use Rattle.row_layout.specs.declared.places.Layout.{Layout}
+use Rattle.row_table.specs.declared.view.PassView.{PassView}
+use Rattle.row_table.specs.declared.answers.Turned.TheVariants.{Got}
+use Rattle.row_table.specs.Rule.{Seat, view, SameRows}
+use Rattle.row_table.specs.Stack.{outs, carried, AreRows}
+use Rattle.row_table.specs.Books.{turned, Learns, Turns}
+use Rattle.row_table.proofs.Turns.{turns_at}
+use Rattle.row_table.proofs.Told.{Kept, kept_by, view_of, front_of, swapped, book_came_out, room_left, no_book, carries_book}
+use Rattle.row_table.proofs.pass.Pass.turn.Goals as goal
+
+pub compare_exchange-found-requires : goal.compare_exchange-found-requires
+compare_exchange-found-requires g c = (
+  search rules,
+  let wide = c.args.iron.now.sized.0 in let at = c.book-word.ensures in omega arith,
+  turns_at g.P.Plan.meaning _ _ _ _ _ _ _ _ (c.book-word.ensures ∙ ap (λ (y : Layout). book_at y.rows y.passes) (sym c.args.iron.now.sized.2)) c.from-mine.ensures c.args.self.now.one c.requires.free,
+)
+
+pub push_front_reserved-requires : goal.push_front_reserved-requires
+push_front_reserved-requires g c =
+    let p = c.args.self.now in let room = p.room in
+    let none : times p.rows p.stack.items ≡ 0 = no_book p.rows (view p.seat.me).core.held p.stack.items (view p.seat.me).core.has_book c.requires.free p.held p.carries in
+    let few = room_left p.rows p.rows (view p.seat.me).core.held p.stack.items (view p.seat.me).core.has_book p.carries p.held (omega arith) none in omega arith
+
+pub take_book-requires-clause-front : goal.take_book-requires-clause-front
+take_book-requires-clause-front g c κs within = let slots = ap (λ (x : _). x.slots) c.requires.table ∙ c.args.iron.now.sized.1 in
+    let t = (c.compare_exchange-found.ensures.2 c.args.iron.now.layout.rows c.args.iron.now.sized.1).0 c.if-found-eq0.true in (t.0, front_of _ _ _ _ t.2)
+
+pub overflow_cast-result : goal.overflow_cast-result
+overflow_cast-result g c = let t = (c.compare_exchange-found.ensures.2 c.args.iron.now.layout.rows c.args.iron.now.sized.1).1 c.if-found-eq0.false in omega (arith, t.0)
+
+pub invariant_of-self : goal.invariant_of-self
+invariant_of-self g c =
+    let p = c.args.self.now in let rows : ℕ = c.args.iron.now.layout.rows in
+    let t = (c.compare_exchange-found.ensures.2 rows c.args.iron.now.sized.1).0 c.if-found-eq0.true in
+    let slots = sym p.slots ∙ (ap (λ (x : _). x.slots) c.requires.table ∙ c.args.iron.now.sized.1) in let same_rows : rows ≡ p.rows = omega arith in
+    let w : PassView g.row.P-Row.Denot g.row.P-Book.Denot g.row.P-Entry.Denot = turned g.P.Plan.meaning (view p.seat.me) t.0 in
+    let items : List ℕ = p.rows ∷ p.stack.items in
+    let pushed : c.push_front_reserved.new.self.items ≡ items = c.push_front_reserved.ensures.items in
+    let k : Kept p.number p.rows c.take_book.new.seat.me c.push_front_reserved.new.self.items = subst (Kept p.number p.rows c.take_book.new.seat.me) (sym pushed)
+    (kept_by p.number p.rows c.take_book.new.seat.me items w
+    (swapped _ _ _ _ _ _ t.2 c.take_book.ensures.seat ∙ (λ i. (w ∷ [], (same_rows i, None) ∷ p.stacked i)))
+    p.one.1 (carries_book p.rows (view p.seat.me).core.held p.stack.items (view p.seat.me).core.has_book c.requires.free p.carries) p.held) in
+    record {
+      one = k.one;
+      slots = ap (λ (x : _). x.slots) (c.take_book.ensures.table ∙ c.compare_exchange-found.ensures.0) ∙ p.slots;
+      stacked = k.stacked;
+      carries = k.carries;
+      held = k.held;
+      few = p.few;
+      room = search rules;
+    }
+
+pub returns-then-found-eq0-clause-turns : goal.returns-then-found-eq0-clause-turns
+returns-then-found-eq0-clause-turns g c =
+    let t = (c.compare_exchange-found.ensures.2 c.args.iron.now.layout.rows c.args.iron.now.sized.1).0 c.if-found-eq0.true in
+    let same : t.0 ≡ c.take_book.result = book_came_out _ _ _ _ _ _ _ t.2 c.take_book.ensures.front in
+    subst (λ (b : g.row.P-Book.Denot). Learns g.P.Plan.meaning c.args.iron.now.layout.rows (view c.args.self.now.seat.me) b × (view c.take_book.new.seat.me ≡ turned g.P.Plan.meaning (view c.args.self.now.seat.me) b)) same
+    (t.1, view_of _ _ _ (swapped _ _ _ _ _ _ t.2 c.take_book.ensures.seat))
+
+pub invariant_of-self-else-found-eq0 : goal.invariant_of-self-else-found-eq0
+invariant_of-self-else-found-eq0 g c =
+    let p = c.args.self.now in let t = (c.compare_exchange-found.ensures.2 c.args.iron.now.layout.rows c.args.iron.now.sized.1).1 c.if-found-eq0.false in
+    let before : Kept p.number p.rows p.seat.me p.stack.items = record { one = p.one; stacked = p.stacked; carries = p.carries; held = p.held } in
+    let k : Kept p.number p.rows c.compare_exchange-found.new.seat.me p.stack.items = subst (λ (m : Seat g.row.P-Row.Denot g.row.P-Book.Denot g.row.P-Entry.Denot). Kept p.number p.rows m p.stack.items) (sym t.1) before in
+    record {
+      one = k.one;
+      slots = ap (λ (x : _). x.slots) c.compare_exchange-found.ensures.0 ∙ p.slots;
+      stacked = k.stacked;
+      carries = k.carries;
+      held = k.held;
+      few = p.few;
+      room = p.room;
+    }
+
+pub returns-clause-turns : goal.returns-clause-turns
+returns-clause-turns g c = let t = (c.compare_exchange-found.ensures.2 c.args.iron.now.layout.rows c.args.iron.now.sized.1).1 c.if-found-eq0.false in
+    ap view t.1

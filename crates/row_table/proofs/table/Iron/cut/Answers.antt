@@ -1,0 +1,30 @@
+use Rattle.std.proofs.Common.{◌≡◌, rules, arith, ℕ, ◌+◌, List, [], ◌∷◌, ◌++◌, refl, sym, ap, ◌∙◌, subst, false, Some}
+use Rattle.walk_core.specs.Lists.{times}
+use Rattle.walk_core.proofs.RowLists.{times-nil}
+use Rattle.row_table.specs.declared.view.PassView.{PassView}
+use Rattle.row_table.specs.Rule.{Slot, Seat, view, SameRows, unmoved}
+use Rattle.row_table.specs.Stack.{outs, carried, AreRows}
+use Rattle.row_table.specs.Start.{first_pass}
+use Rattle.row_table.proofs.Start.{cuts}
+use Rattle.row_table.proofs.Told.{Kept, kept_by, view_of}
+use Rattle.row_table.proofs.table.Iron.cut.Goals as goal
+
+pub split_seat-requires : goal.split_seat-requires
+split_seat-requires g c = (search rules, let wide = c.args.self.now.sized.0 in omega arith, cuts g.P.Plan.meaning _ _ _ _)
+
+pub invariant_of-result : goal.invariant_of-result
+invariant_of-result g c =
+    let w : PassView g.row.P-Row.Denot g.row.P-Book.Denot g.row.P-Entry.Denot = unmoved (Some c.args.self.now.table.shared.key.origin.value) c.args.number in
+    let is : c.split_seat.result.me ≡ (w ∷ [], []) = c.split_seat.ensures.4 ∙ ap (λ (y : Seat g.row.P-Row.Denot g.row.P-Book.Denot g.row.P-Entry.Denot). (first_pass y.0, [])) c.requires.first.1 in
+    let none : SameRows [] (carried c.args.self.now.layout.rows [] false) = λ r. refl in
+    let k : Kept c.args.number c.args.self.now.layout.rows c.split_seat.result.me c.args.stack.items = subst (Kept c.args.number c.args.self.now.layout.rows c.split_seat.result.me) (sym c.requires.stack.0)
+    (kept_by c.args.number c.args.self.now.layout.rows c.split_seat.result.me [] w is refl none (λ r. let n = times-nil r in (omega arith, λ _. n))) in
+    record {
+      one = k.one;
+      slots = ap (λ (x : _). x.slots) (c.split_seat.ensures.3 ∙ c.requires.table) ∙ c.args.self.now.sized.1;
+      stacked = k.stacked;
+      carries = k.carries;
+      held = k.held;
+      few = (let sizes = c.args.self.now.sizes.3 in let less = c.requires.number in omega arith);
+      room = c.requires.stack.1;
+    }

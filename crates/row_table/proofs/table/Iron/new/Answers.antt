@@ -1,0 +1,27 @@
+use Rattle.std.proofs.Common.{◌≡◌, rules, arith, ℕ, ◌+◌, List, [], ◌∷◌, ◌++◌, get_or, length, map, refl, sym, ap, ◌∙◌, subst, Some}
+use Rattle.std.specs.List.{All, range_with_len}
+use Rattle.row_layout.specs.declared.places.Layout.{Layout}
+use Rattle.row_layout.specs.Places.{word_count}
+use Rattle.row_table.specs.Rule.{unmoved, boot_from, boot_views, view, Holds}
+use Rattle.atomic_table.specs.Table.{opening}
+use Rattle.row_table.proofs.Start.{starts, long_is, slots_long}
+use Rattle.row_table.proofs.table.Iron.new.Goals as goal
+
+pub new-requires : goal.new-requires
+new-requires g c = subst (λ (b : g.row.P-Book.Denot). Holds g.P.Plan.meaning c.args.layout b (opening c.as_slice.result.now c.in_ok-slots.slots.items (boot_views c.args.layout b))) (sym c.of.ensures)
+    (starts g.P.Plan.meaning c.args.layout c.as_slice.result.now c.in_ok-slots.slots.items c.args.rows.items c.args.book c.requires.layout g.P.Plan.lawful c.requires.starts (c.as_slice.ensures.value ∙ c.in_ok-words.ensures) c.in_ok-slots.ensures)
+
+pub invariant_of-iron : goal.invariant_of-iron
+invariant_of-iron g c = let ok = c.in-Ok.ensures.ok in record {
+  sizes = c.requires.layout;
+  sized = (
+    ok.0 ∙ (ap length (c.as_slice.ensures.value ∙ c.in_ok-words.ensures) ∙ long_is c.args.layout c.requires.layout),
+    ok.1 ∙ (ap length c.in_ok-slots.ensures ∙ (slots_long c.args.rows.items c.args.book ∙ ap (λ (n : ℕ). n + 1) c.requires.starts.each_row)),
+    ap (λ a. a.layout) ok.5,
+  );
+}
+
+pub returns-clause-views : goal.returns-clause-views
+returns-clause-views g c k d less = let ok = c.in-Ok.ensures.ok in let o = c.in_ok-passes.ensures.views k d less in
+    let at : c.in-Ok.table.shared.key.origin.value ≡ c.args.book = ap (λ a. a.origin.value) ok.5 ∙ c.of.ensures in
+    (o.0, o.1 ∙ ap (λ (b : g.row.P-Book.Denot). unmoved (Some b) (get_or c.in_ok-passes.passes.items k d).number) at)

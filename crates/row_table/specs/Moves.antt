@@ -1,0 +1,84 @@
+-- What each kind of step makes of what a pass knows, and what it tells.
+--     finding, got, looked      a word that was found;  the pass after a grab that took the row, and after one that did not
+--     released      the pass after a release
+--     Finds      what a grab that took the row found
+--     grab_says, grab_told, release_told      what a step tells its seat
+--     NotInHand, LinksRow, MayGrab      a row is not in the pass's hand;  a held row links another;  when a pass may grab
+--     Fits, MayRelease      a content that may stand in a row;  when a pass may release
+use Rattle.std.specs.Prelude.{◌≡◌, ◌≢◌, ℕ, ◌+◌, ◌<◌, ◌≤◌, Bool, not, true, false, ◌⊎◌, List, [], ◌∷◌, ◌++◌, length, slice_index, nat_eq, Option, None, Some}
+use Rattle.std.specs.List.{Contains, filter}
+use Rattle.atomic_table.specs.Table.{Step, rest}
+use Rattle.table_place.specs.declared.Place.{Place}
+use Rattle.walk_core.specs.declared.pass.PassCore.{PassCore}
+use Rattle.walk_core.specs.Words.{lock_at, is_link, link_row, stale}
+use Rattle.walk_core.specs.Lists.{Has, without}
+use Rattle.walk_core.specs.Core.{times_in_hand}
+use Rattle.walk_core.specs.Guards.{StandsOn}
+use Rattle.row_table.specs.declared.plan.Content.TheVariants.{Row, Book}
+use Rattle.row_table.specs.declared.view.PassView.{PassView}
+use Rattle.row_table.specs.declared.view.HeldRow.{HeldRow}
+use Rattle.row_table.specs.declared.view.Finding.{Finding}
+use Rattle.row_table.specs.Plan.{Meaning}
+use Rattle.row_table.specs.Rule.{Slot, Seat, view}
+
+abbrev pub finding : ℕ → Place → Option ℕ → ℕ → Finding
+finding row place index word = record { row = row; place = place; index = index; word = word }
+
+abbrev pub grabbed : {R : Type 0} → ℕ → Place → List ℕ → R → HeldRow R
+grabbed row place words found = record { row = row; place = place; words = words; words_found = words; found = found; is_given = false }
+
+module _ {R B E : Type 0} where
+  abbrev pub looked : PassView R B E → ℕ → Place → Option ℕ → ℕ → PassView R B E
+  looked v row place index word = record v { findings = v.findings ++ finding row place index word ∷ [] }
+
+  abbrev pub got : PassView R B E → ℕ → Place → List ℕ → R → PassView R B E
+  got v row place words found = record v {
+    core = record v.core { held = v.core.held ++ row ∷ [] };
+    rows = v.rows ++ grabbed row place words found ∷ [];
+    findings = v.findings ++ finding row place None 0 ∷ [];
+  }
+
+  abbrev pub released : PassView R B E → ℕ → PassView R B E
+  released v row = record v { core = record v.core { held = without row v.core.held }; rows = filter (λ h. not (nat_eq h.row row)) v.rows }
+
+  abbrev pub NotInHand : PassView R B E → ℕ → Type 0
+  NotInHand v row = times_in_hand row v.core ≡ 0
+
+  -- what a grab that took the row found: its position, its entry words and its content. The row is linked, and the pass did not hold it
+  pub record Finds (row : ℕ) (v : PassView R B E) : Type 0 where
+    pub place : Place
+    pub words : List ℕ
+    pub content : R
+    pub linked : NotInHand v row
+    pub once : ¬ Has v.core.held row
+
+  -- of a grab of the row that found n
+  abbrev pub grab_says : Seat R B E → ℕ → Seat R B E → ℕ → Type 0
+  grab_says m n m' row = (n ≡ 0 → (f : Finds row (view m)) × (m' ≡ (got (view m) row f.place f.words f.content ∷ [], (row, Some (Row f.content)) ∷ m.1)))
+      × (n ≢ 0 → (place : Place) × (n ≤ stale) × (m' ≡ (looked (view m) row place None n ∷ [], m.1)))
+
+  abbrev pub grab_told : Step (Slot R B) → Seat R B E → ℕ → Seat R B E → Type 0
+  grab_told st m n m' = (row : ℕ) → st.word ≡ lock_at row → grab_says m n m' row
+
+  abbrev pub release_told : Step (Slot R B) → Seat R B E → ℕ → Seat R B E → Type 0
+  release_told st m n m' = (row : ℕ) → st.word ≡ lock_at row → m' ≡ (released (view m) row ∷ [], rest m.1)
+
+  -- a row that the pass holds has an entry that links the row
+  pub record LinksRow (v : PassView R B E) (row : ℕ) : Type 0 where
+    pub linker : HeldRow R
+    pub held : Contains v.rows linker
+    pub index : ℕ
+    pub inside : index < 512
+    pub link : is_link (slice_index linker.words index) ≡ true
+    pub to_row : link_row (slice_index linker.words index) ≡ row
+
+  abbrev pub MayGrab : PassView R B E → ℕ → Type 0
+  MayGrab v row = StandsOn v.core row ⊎ LinksRow v row
+
+  -- What may stand in a held row at its release: what the grab found, or, once the pass has given the book, what agrees with the book that it gave last.
+  pub record Fits (M : Meaning R B E) (v : PassView R B E) (row : ℕ) (content : R) : Type 0 where
+    pub known : HeldRow R
+    pub held : Contains v.rows known
+    pub same_row : known.row ≡ row
+    pub content_fits : ((known.is_given ≡ false) × (content ≡ known.found) × (known.words ≡ known.words_found))
+        ⊎ ((known.is_given ≡ true) × ((book : B) × (v.last ≡ Some book) × M.agrees book known.place known.words content))

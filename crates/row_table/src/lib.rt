@@ -1,0 +1,17 @@
+//! The rule of the shared table, and its atomic steps on words.
+#![tactic(auto)]
+
+mod answers;
+mod boot;
+mod pass;
+mod plan;
+mod stack;
+mod table;
+mod view;
+
+pub use answers::{Grabbed, Turned};
+pub use pass::Pass;
+pub use plan::{Content, Plan};
+pub use row_layout::Layout;
+pub use table::Iron;
+pub use view::{Finding, HandRow, HeldRow, PassView};
