@@ -80,7 +80,7 @@ closed_has_text limits es hl he = record {
   accounts = accounts_fit (final limits es) (final_is_consistent limits es hl he) (subst AreLimits (sym (final_limits limits es)) hl);
 }
 
-own_accounts : (st : State) → IsConsistent st → AreRight st (accounts st 0)
+pub own_accounts : (st : State) → IsConsistent st → AreRight st (accounts st 0)
 unfolding accounts
 own_accounts st ok = record { counts = refl; fits = let tables : linked st ≤ st.limits.tables = ok.tables in omega (arith, tables) }
 

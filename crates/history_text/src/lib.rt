@@ -30,3 +30,6 @@ pub use reading::read_history;
 pub use replies::{next_reply, push_reply};
 pub use verdict::Verdict;
 pub use writer::{Written, pass_on, pass_on_many, write_accounts, write_entry, write_history};
+
+#[cfg(test)]
+mod tests;
