@@ -1,4 +1,3 @@
-use Rattle.std.proofs.Common.{sym}
 use Rattle.history_text.proofs.Verdicts.{found_at_entry, found_at_account, none_found}
 use Rattle.history_text.proofs.checking.check.Goals as goal
 
