@@ -184,7 +184,7 @@ fn check_finds_the_line(rt: HostRuntime) -> Result<(), Fail> {
 }
 
 #[test]
-fn limbo_is_the_entry_s_own(rt: HostRuntime) -> Result<(), Fail> {
+fn each_entry_shows_its_limbo(rt: HostRuntime) -> Result<(), Fail> {
     let limbo = check_text(
         rt.alloc(),
         b"corten 1\nframes 2\ntables 4\nswap 1\n0 map 0 any 1 rw- zero = notables 1 1 3\n0 map 0 any 1 rw- zero = at 0x8000000000\nframes 2 free 2 mapped 0\nswap 1 free 1 used 0\ntables 4 linked 4 limbo 0\n",

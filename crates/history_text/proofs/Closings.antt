@@ -1,6 +1,6 @@
 -- The accounts of states that legal histories reach.
-use Rattle.std.proofs.Common.{◌≡◌, ◌≢◌, ℕ, ◌+◌, ◌<◌, ◌≤◌, ◌^◌, List, [], ◌∷◌, ◌++◌, length, refl, sym, ap, subst, ◌∙◌, arith}
-use Rattle.std.specs.List.{All, filter, range_with_len}
+use Rattle.std.proofs.Common.{◌≡◌, ℕ, ◌+◌, ◌<◌, ◌≤◌, List, [], ◌∷◌, length, refl, sym, ap, subst, ◌∙◌, arith}
+use Rattle.std.specs.List.{All, range_with_len}
 use Rattle.std.specs.Prelude.{nat_eq}
 use Rattle.std.proofs.lemmas.List.Sums.{length-filter, count_by-le-length}
 use Rattle.std.proofs.lemmas.List.FromFn.{length-range_with_len}
@@ -9,7 +9,7 @@ use Rattle.corten_base.specs.declared.calls.Entry.{Entry}
 use Rattle.corten_base.specs.declared.calls.Call.{Call}
 use Rattle.corten_base.specs.declared.numbers.Limits.{Limits}
 use Rattle.corten_base.specs.declared.numbers.Accounts.{Accounts}
-use Rattle.page_map.specs.State.{State, start, accounts, linked, unused, unused_frames, unused_slots, frame_owners, slot_owners, IsConsistent}
+use Rattle.page_map.specs.State.{State, start, accounts, linked, unused, frame_owners, slot_owners, IsConsistent}
 use Rattle.page_map.specs.Step.{step}
 use Rattle.page_map.specs.Effect.{state_after}
 use Rattle.page_map.specs.History.{IsHistory, after, entry_step, limbo_of}
@@ -19,7 +19,7 @@ use Rattle.page_map.proofs.Bytewise.{keeps_along}
 use Rattle.page_map.proofs.Recalled.{each_of}
 use Rattle.mm_script.specs.ScriptText.{AreLimits}
 use Rattle.history_text.specs.declared.history.History.{History}
-use Rattle.history_text.specs.Accounting.{frames_counts, swap_counts, tables_counts, AreCounts, AreAccounts}
+use Rattle.history_text.specs.Accounting.{frames_counts, swap_counts, AreAccounts}
 use Rattle.history_text.specs.HistoryText.{IsEntry, HasText}
 use Rattle.history_text.specs.Checking.{AreRight, IsLegalHistory}
 use Rattle.history_text.specs.Wrong.{AreTablesRight}

@@ -2,27 +2,27 @@
 use Rattle.std.proofs.Common.{◌≡◌, ◌≢◌, ℕ, ◌+◌, ◌<◌, ◌≤◌, List, [], ◌∷◌, ◌++◌, drop, get_or, length, map, take, codes, refl, sym, ap, subst, ◌∙◌, arith}
 use Rattle.std.specs.Prelude.{Option, Some, None, IfNone}
 use Rattle.std.specs.List.{All}
-use Rattle.std.proofs.lemmas.List.{append-nil, append_assoc, length-append, length-map, length-take-le, map-append, take_more, take-append-drop}
+use Rattle.std.proofs.lemmas.List.{append_assoc, length-append, length-map, length-take-le, map-append, take_more, take-append-drop}
 use Rattle.std.proofs.lemmas.List.Elements.{All-nil, All-cons, All-head, All-tail}
 use Rattle.corten_base.specs.declared.calls.Entry.{Entry}
 use Rattle.corten_base.specs.declared.numbers.Limits.{Limits}
 use Rattle.corten_base.specs.declared.numbers.Accounts.{Accounts}
 use Rattle.page_map.specs.State.{State, start, accounts, linked}
 use Rattle.page_map.specs.History.{IsLegal, IsHistory, after, entry_step}
-use Rattle.page_map.proofs.Histories.{legal_prefix, legal_rest, legal_join, after_append}
+use Rattle.page_map.proofs.Histories.{legal_rest, legal_join, after_append}
 use Rattle.text_words.specs.Grammar.{Begins}
 use Rattle.text_words.proofs.Grammars.{Begins-front, Begins-whole}
 use Rattle.mm_script.specs.ScriptText.{AreLimits}
 use Rattle.history_text.specs.declared.history.History.{History}
 use Rattle.history_text.specs.declared.counts.Counts.{Counts}
 use Rattle.history_text.specs.Accounting.{header_lines, account_lines, frames_line, swap_line, tables_line, frames_counts, swap_counts, tables_counts, AreCounts}
-use Rattle.history_text.specs.HistoryText.{entry_line, history_lines, IsEntry, HasText, AreHistoryLines}
+use Rattle.history_text.specs.HistoryText.{entry_line, history_lines, IsEntry, HasText}
 use Rattle.history_text.specs.Checking.{IsRight, AreRight, IsLegalHistory, AreLegalLines, IsFirstWrong}
 use Rattle.history_text.specs.Wrong.{IsWrongAt, AreTablesRight, WrongAccount}
 use Rattle.history_text.proofs.OneEntry.{entry_line_injective}
 use Rattle.history_text.proofs.OneHistory.{same_limits}
 use Rattle.history_text.proofs.CountLines.{frames_line_no_entry, counts_line_injective, frames_names, swap_names, tables_names}
-use Rattle.history_text.proofs.Beginnings.{GoesOn, FirstBehind, LastLines, behind_entries, first_behind, behind_header, last_lines}
+use Rattle.history_text.proofs.Beginnings.{FirstBehind, behind_entries, first_behind, behind_header, last_lines}
 use Rattle.history_text.proofs.Closings.{final, closed, closed_has_text, closed_is_legal, right_frames, right_swap, right_tables}
 
 -- one more legal entry, or the first wrong one

@@ -1,10 +1,13 @@
 //! Laws of entries' lines and of history texts.
-ghost use Rattle.std.specs.Prelude.{◌≡◌, ℕ, List, ◌++◌};
+ghost use Rattle.std.specs.Prelude.{◌≡◌, ℕ, ◌+◌, List, [], ◌++◌, length};
 ghost use Rattle.corten_base.specs.declared.calls.Entry.{Entry};
 ghost use Rattle.history_text.specs.declared.history.History.{History};
 ghost use Rattle.history_text.specs.declared.verdict.Verdict.{Verdict};
-ghost use Rattle.history_text.specs.HistoryText.{entry_words, entry_line, history_text, IsEntry, HasText, IsHistoryText, IsFirstFault};
-ghost use Rattle.history_text.specs.Checking.{IsVerdict};
+ghost use Rattle.history_text.specs.HistoryText.{entry_words, entry_line, history_lines, history_text, IsEntry, HasText, IsHistoryText, IsFirstFault};
+ghost use Rattle.page_map.specs.State.{start};
+ghost use Rattle.page_map.specs.History.{IsHistory, after};
+ghost use Rattle.history_text.specs.Checking.{IsVerdict, IsFirstWrong};
+ghost use Rattle.history_text.specs.Wrong.{IsWrongAt, WrongAccount};
 
 /// A line is that of one entry at most.
 pub fn a_line_has_one_entry()
@@ -38,4 +41,12 @@ pub fn a_text_has_one_first_fault()
 /// Of a history one verdict at most is right.
 pub fn a_history_has_one_verdict()
     ensures { (h : History) (v w : Verdict) → HasText h → IsVerdict h v → IsVerdict h w → v ≡ w }
+{}
+
+/// The first wrong line is that of the first answered call whose reply is not the step's, and where each reply is the step's, the first
+/// account line that is not that of the state which they leave.
+pub fn a_wrong_reply_or_account_is_the_first_wrong_line()
+    ensures reply { (h : History) (i : ℕ) → HasText h → IsWrongAt (start h.limits []) h.entries i → IsFirstWrong (history_lines h) (5 + i) }
+    ensures account { (h : History) (i : ℕ) → HasText h → IsHistory h.limits [] h.entries
+        → WrongAccount (after (start h.limits []) h.entries) h.accounts i → IsFirstWrong (history_lines h) (5 + length h.entries + i) }
 {}

@@ -24,7 +24,8 @@ pub use entries::{print_entry, push_entry, read_entry};
 pub use history::History;
 pub use laws::{
     a_history_has_one_verdict, a_line_has_one_entry, a_text_has_one_first_fault,
-    a_text_has_one_history, printing_and_reading_are_inverse, words_begin_with_one_entry,
+    a_text_has_one_history, a_wrong_reply_or_account_is_the_first_wrong_line,
+    printing_and_reading_are_inverse, words_begin_with_one_entry,
 };
 pub use reading::read_history;
 pub use replies::{next_reply, push_reply};
