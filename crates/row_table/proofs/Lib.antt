@@ -8,3 +8,5 @@ pub mod Start
 pub mod Spans
 pub mod Regions
 pub mod Turns
+pub mod End
+pub mod Tally

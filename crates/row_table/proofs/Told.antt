@@ -122,3 +122,10 @@ carries_no_book rows held more has some_book same q =
 -- while no book is carried, its slot has room
 pub no_book : (rows : ℕ) (held items : List ℕ) (has : Bool) → has ≡ false → AreRows rows held → SameRows items (carried rows held has) → times rows items ≡ 0
 no_book rows held items has none are same = let past = (are rows).1 in not_carried rows rows held items has same (past (omega arith)) (λ e. let clash : true ≡ false = sym e ∙ none in absurd (cc))
+
+-- a pass that holds nothing and has no book carries nothing
+pub nothing_out : (rows : ℕ) (held items : List ℕ) (has : Bool) → SameRows items (carried rows held has) → held ≡ [] → has ≡ false → items ≡ []
+nothing_out rows held [] has same none no_book = refl
+nothing_out rows held (x ∷ xs) has same none no_book =
+    let s = same x in let one = times-cons_same x x xs refl in let n = times-nil x in
+    let z : times x (carried rows held has) ≡ times x [] = λ i. times x (carried rows (none i) (no_book i)) in absurd (omega arith)

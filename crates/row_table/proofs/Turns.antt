@@ -56,7 +56,7 @@ has_contained [] r c = let h = c.1 in absurd (omega arith)
 has_contained (x ∷ xs) r c = let n = times-cons r x xs in ⊎_elim (λ (z : x ≡ r). let one = times-cons_same r x xs z in omega arith)
     (λ (l : Contains xs r). let o = has_contained xs r l in omega arith) (head_or_later x xs r c)
 
-same_parts : {X Y : Type 0} (f : X → Y) (g : Y → ℕ) (h : X → ℕ) → ((x : X) → g (f x) ≡ h x) → (xs : List X) → map g (map f xs) ≡ map h xs
+pub same_parts : {X Y : Type 0} (f : X → Y) (g : Y → ℕ) (h : X → ℕ) → ((x : X) → g (f x) ≡ h x) → (xs : List X) → map g (map f xs) ≡ map h xs
 same_parts f g h same [] = refl
 same_parts f g h same (x ∷ xs) = λ i. same x i ∷ same_parts f g h same xs i
 
@@ -79,7 +79,7 @@ append_same : (xs ys zs : List ℕ) → SameRows xs ys → SameRows (xs ++ zs) (
 append_same xs ys zs same q = let s = same q in let a = times-append q xs zs in let b = times-append q ys zs in omega arith
 
 -- a pass that has the book is there
-book_below : (c : Core) (p : ℕ) → Good c → (pass_at c p).has_book ≡ true → p < c.count
+pub book_below : (c : Core) (p : ℕ) → Good c → (pass_at c p).has_book ≡ true → p < c.count
 book_below c p g has = ⊎_elim (λ (less : p < c.count). less)
     (λ past. let all = g.sizes.passes in let clash : true ≡ false = sym has ∙ ap (λ (u : PassCore). u.has_book) (get_or_past c.passes p idle (omega arith)) in absurd (cc)) (cases_lt p c.count)
 

@@ -5,4 +5,7 @@ pub mod Moves
 pub mod Stack
 pub mod Books
 pub mod Calls
+pub mod Rooms
+pub mod Close
 pub mod Start
+pub mod Tally

@@ -10,6 +10,7 @@ ghost use Rattle.row_table.specs.Start.{MayStart, start_words, start_slots, firs
 
 use crate::pass::Pass;
 use crate::plan::{Content, Plan};
+use crate::rooms::store;
 use crate::table::{About, Iron, Slot, Views};
 use crate::view::PassView;
 use atomic_table::{Seat, Split, Table};
@@ -142,11 +143,16 @@ impl<P: Plan> Iron<P> {
             origin: Snapshot::of(&book),
         };
         let words = boot_words(alloc, &layout)?;
+        let rooms = store::<P::Row>(alloc, &layout, words.len())?;
         let slots = slots_of::<P>(alloc, rows, book)?;
         let Ok((table, seat)) = Table::new(alloc, words.as_slice(), slots, &about) else {
             return Err(AllocError);
         };
-        let iron = Iron { table, layout };
+        let iron = Iron {
+            table,
+            layout,
+            rooms,
+        };
         let passes = iron.deal(alloc, seat, kits)?;
         Ok((iron, passes))
     }

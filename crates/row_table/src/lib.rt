@@ -3,13 +3,18 @@
 
 mod answers;
 mod boot;
+mod close;
 mod pass;
 mod plan;
+mod rooms;
 mod stack;
 mod table;
+#[cfg(test)]
+mod tests;
 mod view;
 
 pub use answers::{Grabbed, Turned};
+pub use close::{IronClose, Parts};
 pub use pass::Pass;
 pub use plan::{Content, Plan};
 pub use row_layout::Layout;

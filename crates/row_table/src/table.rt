@@ -4,6 +4,7 @@ ghost use Rattle.atomic_table.specs.Table.{rest};
 ghost use Rattle.row_layout.specs.Places.{IsLayout, word_count};
 
 use crate::plan::{Content, Plan};
+use crate::rooms::Store;
 use crate::view::PassView;
 use atomic_table::{Play, Seat, Table, TableRule};
 use row_layout::Layout;
@@ -42,6 +43,9 @@ impl<P: Plan> TableRule<Slot<P>, Views<P>, About<P::Book>> for Rule<P> {
 pub struct Iron<P: Plan> {
     pub(crate) table: Table<Slot<P>, Views<P>, About<P::Book>, Rule<P>, Global>,
     pub(crate) layout: Layout,
+    // What the table is closed into.
+    pub(crate) rooms: Store<P::Row>,
+    ghost stored: { (rooms.shared.table_id.slots ≡ 1) × (rooms.shared.key ≡ layout) },
     ghost sizes: { IsLayout layout },
     ghost sized: { (table.shared.table_id.words ≡ word_count layout) × (table.shared.table_id.slots ≡ layout.rows + 1) × (table.shared.key.layout ≡ layout) },
 }

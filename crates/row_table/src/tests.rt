@@ -1,0 +1,132 @@
+ghost use Rattle.std.specs.Prelude.{◌≡◌, ◌<◌, ℕ, length, IfOk, true};
+ghost use Rattle.row_table.specs.Rule.{view};
+ghost use Rattle.row_table.specs.Close.{IsIdle};
+
+use crate::{Iron, IronClose, Layout, Pass, Plan, Turned};
+use std::alloc::{AllocError, Global};
+use std::sync::Wait;
+use std::test::Fail;
+use std::thread;
+use std::thread::{Threads, join};
+
+struct Tally;
+
+impl Plan for Tally {
+    ghost use Rattle.row_table.specs.Tally.{tally, lawful};
+
+    type Row = u8;
+
+    type Book = Vec<(u8, u32)>;
+
+    type Kit = ();
+
+    type Entry = (u8, u32);
+
+    ghost meaning = { tally };
+
+    ghost lawful = { lawful };
+}
+
+// A table of two rows, and its two passes.
+fn made(alloc: Global) -> Result<(Iron<Tally>, Pass<Tally>, Pass<Tally>), AllocError>
+    ensures first { IfOk result (λ r. (r.1.seat.table_id ≡ r.0.table.shared.table_id) × IsIdle (view r.1.seat.me)) }
+    ensures second { IfOk result (λ r. (r.2.seat.table_id ≡ r.0.table.shared.table_id) × IsIdle (view r.2.seat.me)) }
+{
+    let mut rows = Vec::new(alloc);
+    rows.push(0u8)?;
+    rows.push(0u8)?;
+    let mut kits = Vec::new(alloc);
+    kits.push(())?;
+    kits.push(())?;
+    let layout = Layout { rows: 2, passes: 2 };
+    let (iron, mut passes) = Iron::<Tally>::new(alloc, layout, rows, Vec::new(alloc), kits)?;
+    let Some(second) = passes.pop() else {
+        return Err(AllocError);
+    };
+    let Some(first) = passes.pop() else {
+        return Err(AllocError);
+    };
+    Ok((iron, first, second))
+}
+
+// Takes the book, waiting for it, and adds an entry.
+fn note<R: Wait>(rt: &R, iron: &Iron<Tally>, pass: &mut Pass<Tally>, count: u32)
+    requires table { pass.old.seat.table_id ≡ iron.now.table.shared.table_id }
+    requires idle { IsIdle (view pass.old.seat.me) }
+    ensures table { pass.new.seat.table_id ≡ pass.old.seat.table_id }
+    ensures idle { IsIdle (view pass.new.seat.me) }
+{
+    for _ in rt.forever() {
+        match pass.turn(iron) {
+            Turned::Got(mut entries) => {
+                let _ = entries.push((pass.number(), count));
+                pass.give(iron, entries);
+                return;
+            }
+            Turned::Held(_) => thread::yield_now(),
+        }
+    }
+    unreachable!()
+}
+
+// What one thread does.
+fn run<R: Wait>(rt: &R, iron: &Iron<Tally>, mut pass: Pass<Tally>) -> Pass<Tally>
+    requires table { pass.seat.table_id ≡ iron.now.table.shared.table_id }
+    requires idle { IsIdle (view pass.seat.me) }
+    ensures table { result.seat.table_id ≡ pass.seat.table_id }
+    ensures idle { IsIdle (view result.seat.me) }
+{
+    for count in 0..1000 {
+        note(rt, iron, &mut pass, count);
+    }
+    pass
+}
+
+// The book after two threads had it a thousand times each.
+fn both<R: Threads + Wait + Sync>(rt: &R, alloc: Global) -> Result<Vec<(u8, u32)>, AllocError> {
+    let (iron, first, second) = made(alloc)?;
+    let shared = &iron;
+    let (first, second) = join(rt, || run(rt, shared, first), || run(rt, shared, second));
+    let mut passes = Vec::new(alloc);
+    passes.push(first)?;
+    passes.push(second)?;
+    match iron.close(passes) {
+        IronClose::Closed(parts) => Ok(parts.book),
+        IronClose::NotAll(_, _) => Err(AllocError),
+    }
+}
+
+// Whether the entries of a thread count up from 0.
+fn counts_up(entries: &[(u8, u32)], thread: u8) -> bool {
+    let mut next = 0u32;
+    for (other, count) in entries {
+        if *other == thread {
+            if *count != next {
+                return false;
+            }
+            next = next.wrapping_add(1);
+        }
+    }
+    next == 1000
+}
+
+#[test]
+fn each_entry_stands_in_the_journal_once(rt: HostRuntime) -> Result<(), Fail> {
+    let book = both(&rt, rt.alloc())?;
+    assert_eq!(rt; book.len(), 2000);
+    assert!(rt; counts_up(book.as_slice(), 0) && counts_up(book.as_slice(), 1));
+    Ok(())
+}
+
+#[test]
+fn a_table_is_not_closed_without_a_pass(rt: HostRuntime) -> Result<(), Fail> {
+    let (iron, first, _) = made(rt.alloc())?;
+    let mut passes = Vec::new(rt.alloc());
+    passes.push(first)?;
+    let back = match iron.close(passes) {
+        IronClose::Closed(_) => 0,
+        IronClose::NotAll(_, back) => back.len(),
+    };
+    assert_eq!(rt; back, 1);
+    Ok(())
+}
