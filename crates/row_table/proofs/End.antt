@@ -1,9 +1,9 @@
 -- How the seats are put together again, and what holds of the table that is closed then.
-use Rattle.std.proofs.Common.{◌≡◌, ◌≢◌, ℕ, zero, suc, ◌+◌, ◌*◌, ◌%◌, ◌<◌, ◌≤◌, ◌==◌, ◌⊎◌, cond, Bool, true, false, List, [], ◌∷◌, ◌++◌, map, length-append, length, get_or, set, sym, refl, ap, ◌∙◌, subst, inl, inr, ⊎_elim, arith, eq-eqb, ne_eqb, Option, Some, None, append-nil, append_assoc, take, get_or-set_same, get_or-set_other, length-set}
+use Rattle.std.proofs.Common.{◌≡◌, ◌≢◌, ℕ, zero, suc, ◌+◌, ◌*◌, ◌%◌, ◌<◌, ◌≤◌, ◌==◌, ◌⊎◌, cond, Bool, true, false, List, [], ◌∷◌, ◌++◌, map, length, get_or, set, sym, refl, ap, ◌∙◌, subst, inl, inr, ⊎_elim, arith, eq-eqb, ne_eqb, Some, take, get_or-set_same, get_or-set_other, length-set}
 use Rattle.std.specs.List.{Contains, All}
 use Rattle.std.proofs.lemmas.List.Elements.{All-contains, Contains-append_right}
-use mathlib.Core.Option.{some, none, some-injective, some-ne-none}
-use Rattle.std.proofs.lemmas.List.{length-map, map-append, get_or_past}
+use mathlib.Core.Option.{some, some-injective, some-ne-none}
+use Rattle.std.proofs.lemmas.List.{get_or_past}
 use Rattle.std.proofs.lemmas.Bool.{cases_lt}
 use lib.ListN.{get_elem?}
 use native.Mathlib.Decide.{ℕ_discrete}
@@ -11,20 +11,20 @@ use mathlib.Core.Logic.{dite}
 use Rattle.atomic_table.specs.Table.{Final, Seen, Joins, Enters}
 use Rattle.atomic_table.proofs.Lists.{at_map, at_longer, at_last, at_set, at_snoc}
 use Rattle.walk_core.specs.declared.pass.PassCore.{PassCore}
-use Rattle.walk_core.specs.Words.{entry_at, lock_at, epoch_at, book_at, is_link, link_row, stale}
+use Rattle.walk_core.specs.Words.{epoch_at, book_at, stale}
 use Rattle.walk_core.specs.Lists.{times, Has}
-use Rattle.walk_core.specs.Core.{Core, word, pass_at, idle, times_in_hand, times_out, IsLinked}
+use Rattle.walk_core.specs.Core.{Core, word, pass_at, idle, IsLinked}
 use Rattle.walk_core.specs.Good.{Good, LockSays, says_free, says_held, says_stale}
-use Rattle.walk_core.proofs.RowLists.{times-nil, times-cons, times-cons_same, times-cons_other}
+use Rattle.walk_core.proofs.RowLists.{times-nil, times-cons_other}
 use Rattle.walk_core.proofs.Tree.{names_linked}
 use Rattle.walk_core.proofs.Facts.{root_linked}
-use Rattle.walk_core.proofs.Keeps.{found_there, found_is}
+use Rattle.walk_core.proofs.Keeps.{found_is}
 use Rattle.row_layout.specs.declared.places.Layout.{Layout}
 use Rattle.row_table.specs.declared.view.PassView.{PassView}
 use Rattle.row_table.specs.declared.plan.Content.TheVariants.{Row, Book}
 use Rattle.row_table.specs.Plan.{Meaning}
 use Rattle.row_table.specs.Rows.{row_words, place_at, lock_of}
-use Rattle.row_table.specs.Rule.{Slot, Seat, Table, levels, core_part, core_of, Seats, starts_with, own_places, Knows, Holds}
+use Rattle.row_table.specs.Rule.{Slot, Table, core_part, core_of, Seats, Holds}
 use Rattle.row_layout.specs.Places.{word_count}
 use Rattle.row_table.specs.Close.{IsIdle, HasAll, IsReachedIn, IsReached, IsGoodEnd, KnownAtEnd, AtEnd, IsClosed}
 use Rattle.row_table.proofs.Locks.{held_below}

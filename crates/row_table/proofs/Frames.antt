@@ -1,6 +1,5 @@
 -- What every kind of step shares: one word, one pass and what stands at home change, and all else stays.
-use Rattle.std.proofs.Common.{◌≡◌, ◌≢◌, ℕ, zero, suc, ◌+◌, ◌*◌, ◌<◌, ◌≤◌, ◌⊎◌, List, [], ◌∷◌, map, length, get_or, set, sym, refl, ap, ◌∙◌, subst, ⊎_elim, arith, get_or-set_other, get_or-set_same, Some}
-use Rattle.std.specs.List.{Contains}
+use Rattle.std.proofs.Common.{◌≡◌, ◌≢◌, ℕ, zero, suc, ◌<◌, List, [], ◌∷◌, map, length, get_or, set, sym, refl, ap, ◌∙◌, subst, ⊎_elim, arith, get_or-set_other, get_or-set_same, Some}
 use mathlib.Core.Option.{some, some-injective, some-ne-none}
 use mathlib.Core.Logic.{dite}
 use native.Mathlib.Decide.{ℕ_discrete}
@@ -10,9 +9,8 @@ use Rattle.atomic_table.proofs.Lists.{at_map, at_set, set_again, set_else}
 use Rattle.atomic_table.proofs.Lists as lists
 use Rattle.table_place.specs.declared.Place.{Place}
 use Rattle.walk_core.specs.declared.event.Event.{Event}
-use Rattle.walk_core.specs.declared.lists.PutRow.{PutRow}
 use Rattle.walk_core.specs.declared.pass.PassCore.{PassCore}
-use Rattle.walk_core.specs.Words.{lock_at, epoch_at, book_at, stale}
+use Rattle.walk_core.specs.Words.{lock_at, book_at, stale}
 use Rattle.walk_core.specs.Core.{Core, idle}
 use Rattle.walk_core.specs.Events.{pass_of, place_of, number_after, pass_after, free_after, limbo_after, after}
 use Rattle.walk_core.specs.Guards.{Guard}
@@ -20,11 +18,10 @@ use Rattle.walk_core.specs.Good.{Good}
 use Rattle.walk_core.proofs.Keeps.{keeps_at, found_there, found_is}
 use Rattle.row_layout.specs.declared.places.Layout.{Layout}
 use Rattle.row_table.specs.declared.view.PassView.{PassView}
-use Rattle.row_table.specs.declared.view.HeldRow.{HeldRow}
 use Rattle.row_table.specs.declared.plan.Content.TheVariants.{Row, Book}
 use Rattle.row_table.specs.Plan.{Meaning}
 use Rattle.row_table.specs.Rows.{row_words, place_at, lock_of, generation_of}
-use Rattle.row_table.specs.Rule.{Homes, Table, levels, SameRows, core_part, Seats, core_of, Contents, IsHeldRow, Knows, Holds}
+use Rattle.row_table.specs.Rule.{Homes, Table, levels, SameRows, core_part, Seats, core_of, Contents, Knows, Holds}
 use Rattle.row_table.proofs.Shown.{ShowsSame, ShowSame, lock_shows, book_shows}
 
 at_here : {A : Type 0} (l : List A) (i : ℕ) (a b : A) → get_elem? l i ≡ some b → get_elem? (set l i a) i ≡ some a

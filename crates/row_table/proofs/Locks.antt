@@ -1,6 +1,6 @@
 -- Grab and release keep the rule.
-use Rattle.std.proofs.Common.{◌≡◌, ◌≢◌, ℕ, ◌+◌, ◌<◌, ◌≤◌, ◌⊎◌, eqb, not, cond, Bool, true, false, List, [], ◌∷◌, ◌++◌, map, length, get_or, set, sym, refl, ap, ◌∙◌, subst, inl, inr, ⊎_elim, arith, length-set, eq-eqb, ne_eqb, Option, Some, None}
-use Rattle.std.specs.List.{Contains, filter}
+use Rattle.std.proofs.Common.{◌≡◌, ℕ, ◌+◌, ◌<◌, ◌≤◌, ◌⊎◌, eqb, not, cond, true, false, List, [], ◌∷◌, ◌++◌, length, get_or, set, sym, refl, ap, ◌∙◌, subst, ⊎_elim, arith, length-set, eq-eqb, ne_eqb, Some, None}
+use Rattle.std.specs.List.{Contains}
 use Rattle.std.proofs.lemmas.List.{map-append}
 use Rattle.std.proofs.lemmas.List.Elements.{Contains-push_cases}
 use mathlib.Core.Option.{some, none}
@@ -25,19 +25,17 @@ use Rattle.walk_core.proofs.RowLists.{times-nil}
 use Rattle.walk_core.specs.Good.{Good, LockSays, says_free, says_held, says_stale}
 use Rattle.walk_core.proofs.Facts.{free_unheld, free_linked}
 use Rattle.walk_core.proofs.KeepsLocks.{grabbed_there}
-use Rattle.walk_core.proofs.Roomy.{held_room}
 use Rattle.row_layout.specs.declared.places.Layout.{Layout}
 use Rattle.row_table.specs.declared.view.PassView.{PassView}
 use Rattle.row_table.specs.declared.view.HeldRow.{HeldRow}
-use Rattle.row_table.specs.declared.plan.Content.{Content}
-use Rattle.row_table.specs.declared.plan.Content.TheVariants.{Row, Book}
+use Rattle.row_table.specs.declared.plan.Content.TheVariants.{Row}
 use Rattle.row_table.specs.Plan.{Meaning}
-use Rattle.row_table.specs.Rows.{row_words, place_at, lock_of}
-use Rattle.row_table.specs.Rule.{Slot, Homes, Seat, Table, view, IsOne, row_part, core_of, Agrees, IsHeldRow, Knows, Holds}
-use Rattle.row_table.specs.Moves.{grabbed, looked, got, released, NotInHand, Finds, grab_says, grab_told, release_told, MayGrab, Fits}
+use Rattle.row_table.specs.Rows.{row_words, place_at}
+use Rattle.row_table.specs.Rule.{Slot, Homes, Seat, view, IsOne, row_part, core_of, Agrees, IsHeldRow, Knows, Holds}
+use Rattle.row_table.specs.Moves.{grabbed, looked, got, released, NotInHand, grab_says, grab_told, release_told, MayGrab, Fits}
 use Rattle.row_table.proofs.Shown.{ShowSame, lock_shows}
 use Rattle.row_table.proofs.Frames.{RowHome, moved_here, knows_shown, contents_locked, home_of, home_moves}
-use Rattle.row_table.proofs.Views.{kept, rows_without, pass_is, knows_it, is_linked, not_in_hand, guard_grab, has_held}
+use Rattle.row_table.proofs.Views.{kept, rows_without, pass_is, is_linked, not_in_hand, guard_grab, has_held}
 
 -- a pass that holds a row is there
 pub held_below : (c : Core) (p r : ℕ) → Good c → Has (pass_at c p).held r → p < c.count

@@ -1,5 +1,5 @@
 -- A linked row that a pass does not hold is not touched by what the pass may do while it has the book.
-use Rattle.std.proofs.Common.{◌≡◌, ◌≢◌, ℕ, zero, suc, ◌+◌, ◌<◌, ◌≤◌, ◌⊎◌, Bool, true, false, ◌&&◌, List, [], ◌∷◌, get_or, map, sym, refl, ap, ◌∙◌, subst, inl, inr, ⊎_elim, arith, eqb, eq-eqb}
+use Rattle.std.proofs.Common.{◌≡◌, ℕ, ◌<◌, ◌≤◌, ◌⊎◌, Bool, true, false, ◌&&◌, List, [], ◌∷◌, get_or, sym, refl, ap, ◌∙◌, subst, inl, inr, ⊎_elim, arith, eqb, eq-eqb}
 use Rattle.std.specs.List.{Contains}
 use Rattle.std.proofs.lemmas.Bool.{and_parts, and_from, eqb-true, cases_Bool}
 use mathlib.Core.Option.{some}
@@ -15,12 +15,12 @@ use Rattle.row_layout.specs.declared.places.Layout.{Layout}
 use Rattle.row_table.specs.declared.view.PassView.{PassView}
 use Rattle.row_table.specs.declared.view.HeldRow.{HeldRow}
 use Rattle.row_table.specs.Plan.{Meaning, Covers, IsOutside, IsUntouched}
-use Rattle.row_table.specs.Rows.{row_words, place_at}
-use Rattle.row_table.specs.Rule.{Table, row_part, core_of, Holds}
+use Rattle.row_table.specs.Rows.{place_at}
+use Rattle.row_table.specs.Rule.{Table, core_of, Holds}
 use Rattle.row_table.specs.Moves.{NotInHand}
 use Rattle.row_table.specs.Books.{IsHeldAt, IsBelow, region}
 use Rattle.row_table.proofs.Shown.{word_at}
-use Rattle.row_table.proofs.Views.{head_or_later, in_head, in_tail, has_row, row_had, held_of_row, knows_it, is_linked, not_in_hand}
+use Rattle.row_table.proofs.Views.{head_or_later, in_head, in_tail, row_had, held_of_row, knows_it, is_linked, not_in_hand}
 use Rattle.row_table.proofs.Spans.{nested, first_page, row_low, same_place, Below, Clear, looked_up}
 
 -- an element of which a test is true, or the test is false of all

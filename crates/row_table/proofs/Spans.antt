@@ -1,8 +1,8 @@
 -- Spans of the rows of the tree: no two linked rows have one position, and where a held row is in reach.
-use Rattle.std.proofs.Common.{◌≡◌, ◌≢◌, ℕ, zero, suc, ◌+◌, ◌-◌, ◌*◌, ◌/◌, ◌%◌, ◌^◌, ◌<◌, ◌≤◌, ◌⊎◌, Bool, true, false, cond, ◌&&◌, List, [], ◌∷◌, get_or, sym, refl, ap, ◌∙◌, subst, inl, inr, ⊎_elim, arith, eqb, eq-eqb, ne_eqb}
+use Rattle.std.proofs.Common.{◌≡◌, ◌≢◌, ℕ, zero, suc, ◌+◌, ◌-◌, ◌*◌, ◌/◌, ◌^◌, ◌<◌, ◌≤◌, ◌⊎◌, true, ◌&&◌, sym, refl, ap, ◌∙◌, subst, inl, inr, ⊎_elim, arith}
 use Rattle.std.proofs.Math.Nat.{mul-div_cancel, div-div-eq-div-mul}
 use Rattle.std.proofs.Math.Pow.{pow-add}
-use Rattle.std.proofs.lemmas.Bool.{and_parts, and_from, or_left, eqb-true, ltb-true, cases_lt, cases_Bool, cond-false, cond-true}
+use Rattle.std.proofs.lemmas.Bool.{and_parts, cond-false}
 use mathlib.Core.Logic.{dite}
 use native.Mathlib.Decide.{ℕ_discrete}
 use Rattle.table_place.specs.declared.Place.{Place}
@@ -13,9 +13,9 @@ use Rattle.table_place.proofs.Tables.{in_range}
 use Rattle.table_place.proofs.Entries.{no_directory, page_parts, page_from}
 use Rattle.walk_core.specs.Words.{entry_at, is_link, link_row}
 use Rattle.walk_core.specs.Core.{Core, word, place_in, IsLinked}
-use Rattle.walk_core.specs.Good.{Good, Links}
+use Rattle.walk_core.specs.Good.{Good}
 use Rattle.walk_core.proofs.Spellings.{zero_no_link}
-use Rattle.walk_core.proofs.Tree.{names_linked, linker_linked, named_by}
+use Rattle.walk_core.proofs.Tree.{linker_linked, named_by}
 use Rattle.row_table.specs.Plan.{Covers}
 
 -- Places

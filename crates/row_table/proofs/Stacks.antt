@@ -1,8 +1,8 @@
 -- A seat's slots, turned until a row's slot is in front.
-use Rattle.std.proofs.Common.{◌≡◌, ◌≢◌, ℕ, ◌+◌, List, [], ◌∷◌, ◌++◌, length, sym, refl, ap, ◌∙◌, subst, ⊎_elim, arith, append-nil, append_assoc, Option, None}
+use Rattle.std.proofs.Common.{◌≡◌, ◌≢◌, ℕ, ◌+◌, List, [], ◌∷◌, ◌++◌, length, sym, refl, ap, ◌∙◌, arith, append-nil, append_assoc, Option, None}
 use Rattle.atomic_table.specs.Table.{turned}
 use Rattle.walk_core.specs.Lists.{times, Has}
-use Rattle.walk_core.proofs.RowLists.{times-nil, times-cons_other, times-append, times_one_other}
+use Rattle.walk_core.proofs.RowLists.{times-nil, times-append, times_one_other}
 use Rattle.row_table.specs.Stack.{outs, Ahead}
 
 pub ahead_all : (row n : ℕ) (xs : List ℕ) → length xs ≡ n → Has xs row → Ahead row n xs

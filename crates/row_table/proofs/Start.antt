@@ -1,5 +1,5 @@
 -- How the table starts, and how the passes get seats of their own.
-use Rattle.std.proofs.Common.{◌≡◌, ◌≢◌, ℕ, zero, suc, ◌+◌, ◌-◌, ◌*◌, ◌<◌, ◌≤◌, ◌==◌, ◌⊎◌, cond, Bool, true, false, List, [], ◌∷◌, ◌++◌, map, length-append, length, get_or, set, replicate, sym, refl, ap, ◌∙◌, subst, inl, inr, ⊎_elim, arith, eq-eqb, ne_eqb, Option, Some}
+use Rattle.std.proofs.Common.{◌≡◌, ◌≢◌, ℕ, zero, suc, ◌+◌, ◌-◌, ◌<◌, ◌≤◌, ◌==◌, ◌⊎◌, cond, Bool, List, [], ◌∷◌, ◌++◌, map, length-append, length, get_or, set, replicate, sym, refl, ap, ◌∙◌, subst, inl, inr, ⊎_elim, arith, eq-eqb, ne_eqb, Option, Some}
 use Rattle.std.specs.Prelude.{Result, Ok, Err, IfOk}
 use Rattle.std.specs.List.{range_with_len, sum_by}
 use mathlib.Core.Option.{some, some-injective, some-ne-none}
@@ -13,9 +13,9 @@ use native.Mathlib.Decide.{ℕ_discrete}
 use Rattle.atomic_table.specs.Table.{Splits, opening}
 use Rattle.atomic_table.proofs.Lists.{at_map, at_longer, at_last, at_set}
 use Rattle.walk_core.specs.declared.pass.PassCore.{PassCore}
-use Rattle.walk_core.specs.Words.{lock_at, generation_at, epoch_at, book_at, stale, word_count}
-use Rattle.walk_core.specs.Lists.{times, Has}
-use Rattle.walk_core.specs.Core.{Core, word, pass_at, idle, times_in_hand, times_out, MayBoot, boot, boot_word}
+use Rattle.walk_core.specs.Words.{generation_at, epoch_at, stale, word_count}
+use Rattle.walk_core.specs.Lists.{times}
+use Rattle.walk_core.specs.Core.{Core, word, idle, times_in_hand, times_out, MayBoot, boot, boot_word}
 use Rattle.walk_core.specs.Good.{Good, LockSays, says_free, says_held, says_stale}
 use Rattle.walk_core.proofs.RowLists.{times-nil, range-push}
 use Rattle.walk_core.proofs.Facts.{free_linked}
@@ -23,7 +23,6 @@ use Rattle.walk_core.proofs.Boot.{boot_good, boot_zero, word_is, times-range_out
 use Rattle.row_layout.specs.declared.places.Layout.{Layout}
 use Rattle.row_layout.specs.Places.{IsLayout}
 use Rattle.row_table.specs.declared.view.PassView.{PassView}
-use Rattle.row_table.specs.declared.plan.Content.{Content}
 use Rattle.row_table.specs.declared.plan.Content.TheVariants.{Row, Book}
 use Rattle.row_table.specs.Plan.{Meaning, IsLawful}
 use Rattle.row_table.specs.Rows.{row_words, place_at, lock_of, generation_of}

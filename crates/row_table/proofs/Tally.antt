@@ -1,18 +1,17 @@
 -- What the tests' plan lets a pass do.
-use Rattle.std.proofs.Common.{◌≡◌, ℕ, ◌+◌, ◌-◌, ◌<◌, ◌≤◌, true, false, Bool, List, [], ◌∷◌, ◌++◌, length, length-append, inl, inr, sym, refl, ap, ◌∙◌, subst, arith, append-nil, Some}
+use Rattle.std.proofs.Common.{◌≡◌, ℕ, ◌-◌, true, false, Bool, List, [], ◌∷◌, ◌++◌, length, length-append, inl, inr, sym, refl, ap, ◌∙◌, subst, arith, append-nil, Some}
 use Rattle.std.specs.Bool.{if◌then◌else◌}
-use Rattle.std.specs.List.{range_with_len, filter}
-use mathlib.Core.Option.{some, some-injective}
+use Rattle.std.specs.List.{range_with_len}
+use mathlib.Core.Option.{some-injective}
 use lib.ListN.{get_elem?}
 use Rattle.atomic_table.proofs.Lists.{at_last}
 use Rattle.walk_core.proofs.RowLists.{times-nil}
 use Rattle.walk_core.specs.Events.{unlinked_after_give}
-use Rattle.walk_core.specs.declared.pass.UnlinkedRow.{UnlinkedRow}
 use Rattle.row_layout.specs.declared.places.Layout.{Layout}
 use Rattle.row_table.specs.declared.view.PassView.{PassView}
 use Rattle.row_table.specs.Plan.{HasGrown}
 use Rattle.row_table.specs.Rule.{unmoved}
-use Rattle.row_table.specs.Books.{MayGive, IsGivable, turned, gave, Gives, Learns}
+use Rattle.row_table.specs.Books.{MayGive, turned, Gives}
 use Rattle.row_table.specs.Close.{IsIdle}
 use Rattle.row_table.specs.Start.{MayStart}
 use Rattle.row_table.specs.Tally.{Notes, tally}
@@ -66,7 +65,10 @@ idle_again v w u book new idle e gives = subst (λ (x : View). IsIdle x) (sym gi
 
 -- what a push that may fail did
 pub added : (ok : Bool) (old new : List (ℕ × ℕ)) (x : ℕ × ℕ) → new ≡ (if ok then old ++ x ∷ [] else old) → HasGrown old new × ((e : ℕ × ℕ) → new ≡ old ++ e ∷ [] → e.0 ≡ x.0)
-added true old new x is = (inr (x, is), λ e at. let both = ap (λ (l : List (ℕ × ℕ)). get_elem? l (length old)) (sym at ∙ is) in
-    let one = at_last old e (length old) refl in let two = at_last old x (length old) refl in
-    ap (λ (y : ℕ × ℕ). y.0) (some-injective e x (sym one ∙ (both ∙ two))))
+added true old new x is = (
+  inr (x, is),
+  λ e at. let both = ap (λ (l : List (ℕ × ℕ)). get_elem? l (length old)) (sym at ∙ is) in
+      let one = at_last old e (length old) refl in let two = at_last old x (length old) refl in
+      ap (λ (y : ℕ × ℕ). y.0) (some-injective e x (sym one ∙ (both ∙ two))),
+)
 added false old new x is = (inl is, λ e at. let long = ap length (sym at ∙ is) in let more = length-append old (e ∷ []) in absurd (omega arith))

@@ -1,5 +1,5 @@
 -- What follows from what a step told, for the seat and for the slots that it carries.
-use Rattle.std.proofs.Common.{◌≡◌, ◌≢◌, ℕ, ◌+◌, ◌<◌, ◌≤◌, Bool, true, false, cond, List, [], ◌∷◌, ◌++◌, map, length, sym, refl, ap, ◌∙◌, subst, get_or, arith, Option, Some, None}
+use Rattle.std.proofs.Common.{◌≡◌, ◌≢◌, ℕ, ◌+◌, ◌<◌, ◌≤◌, Bool, true, false, cond, List, [], ◌∷◌, ◌++◌, length, sym, refl, ap, ◌∙◌, subst, get_or, arith, Some}
 use mathlib.Core.Logic.{dite}
 use native.Mathlib.Decide.{ℕ_discrete}
 use Rattle.atomic_table.specs.Table.{rest}
@@ -7,7 +7,6 @@ use Rattle.walk_core.specs.Lists.{times, Has, without}
 use Rattle.walk_core.proofs.RowLists.{times-nil, times-cons_same, times-cons_other, times-append, times_one_same, times_one_other, times_without_same, times_without_other}
 use Rattle.walk_core.proofs.Stepped.{length-missing}
 use Rattle.row_table.specs.declared.view.PassView.{PassView}
-use Rattle.row_table.specs.declared.plan.Content.{Content}
 use Rattle.row_table.specs.declared.plan.Content.TheVariants.{Row, Book}
 use Rattle.row_table.specs.Rule.{Slot, Seat, view, IsOne, SameRows}
 use Rattle.row_table.specs.Stack.{outs, carried, AreRows}

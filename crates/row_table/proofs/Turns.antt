@@ -1,6 +1,6 @@
 -- Turn and give keep the rule.
-use Rattle.std.proofs.Common.{◌≡◌, ◌≢◌, ℕ, zero, suc, ◌+◌, ◌<◌, ◌≤◌, ◌==◌, ◌⊎◌, eqb, not, cond, Bool, true, false, List, [], ◌∷◌, ◌++◌, map, length, get_or, set, sym, refl, ap, ◌∙◌, subst, inl, inr, ⊎_elim, arith, length-set, append-nil, append_assoc, eq-eqb, ne_eqb, Option, Some, None}
-use Rattle.std.specs.List.{Contains, filter}
+use Rattle.std.proofs.Common.{◌≡◌, ◌≢◌, ℕ, ◌+◌, ◌<◌, ◌≤◌, ◌==◌, eqb, cond, Bool, true, false, List, [], ◌∷◌, ◌++◌, map, length, get_or, set, sym, refl, ap, ◌∙◌, subst, ⊎_elim, arith, length-set, append-nil, append_assoc, eq-eqb, ne_eqb, Some}
+use Rattle.std.specs.List.{Contains}
 use Rattle.std.proofs.lemmas.List.{map-append, get_or_past}
 use Rattle.std.proofs.lemmas.List.Elements.{Contains-append_cases}
 use Rattle.std.proofs.lemmas.Bool.{cases_lt}
@@ -14,17 +14,15 @@ use Rattle.atomic_table.specs.Table.{rest, Allows, step, takes, keeps, gives}
 use Rattle.atomic_table.proofs.Lists.{set_else}
 use Rattle.atomic_table.proofs.Lists as lists
 use Rattle.table_place.specs.declared.Place.{Place}
-use Rattle.walk_core.specs.declared.event.Event.{Event}
-use Rattle.walk_core.specs.declared.event.Event.TheVariants.{Turn, Give}
+use Rattle.walk_core.specs.declared.event.Event.TheVariants.{Turn}
 use Rattle.walk_core.specs.declared.pass.PassCore.{PassCore}
 use Rattle.walk_core.specs.declared.pass.GrantedRow.{GrantedRow}
-use Rattle.walk_core.specs.Words.{lock_at, book_at}
+use Rattle.walk_core.specs.Words.{book_at}
 use Rattle.walk_core.specs.Lists.{times, Has, minus}
-use Rattle.walk_core.specs.Core.{Core, word, pass_at, idle, no_samples, granted_rows, limbo_rows, times_in_hand, times_out, IsLinked}
+use Rattle.walk_core.specs.Core.{Core, word, pass_at, idle, times_in_hand, times_out, IsLinked}
 use Rattle.walk_core.specs.Events.{newly_granted, free_after}
 use Rattle.walk_core.specs.Guards.{Guard, put_rows}
-use Rattle.walk_core.specs.Guards as guards
-use Rattle.walk_core.specs.Good.{Good, BookLock}
+use Rattle.walk_core.specs.Good.{Good}
 use Rattle.walk_core.proofs.RowLists.{times-nil, times-append, times-cons, times-cons_same, times_minus_same, times_minus_other}
 use Rattle.walk_core.proofs.Facts.{free_unheld, free_linked, parts-le-out, out-le-one}
 use Rattle.walk_core.proofs.Frames.{same_holder}
@@ -32,12 +30,12 @@ use Rattle.row_layout.specs.declared.places.Layout.{Layout}
 use Rattle.row_table.specs.declared.view.PassView.{PassView}
 use Rattle.row_table.specs.declared.view.HeldRow.{HeldRow}
 use Rattle.row_table.specs.declared.view.HandRow.{HandRow}
-use Rattle.row_table.specs.declared.plan.Content.TheVariants.{Row, Book}
-use Rattle.row_table.specs.Plan.{Meaning, IsLawful, HasGrown, IsUntouched}
+use Rattle.row_table.specs.declared.plan.Content.TheVariants.{Book}
+use Rattle.row_table.specs.Plan.{Meaning, IsLawful}
 use Rattle.row_table.specs.Rows.{row_words, place_at, lock_of, generation_of}
-use Rattle.row_table.specs.Rule.{Slot, Homes, Seat, Table, view, IsOne, row_part, hand_part, core_part, starts_with, places_from, own_places, SameRows, core_of, Agrees, IsHeldRow, IsHandRow, Knows, Holds}
+use Rattle.row_table.specs.Rule.{Slot, Homes, Seat, Table, view, IsOne, row_part, hand_part, starts_with, places_from, own_places, SameRows, core_of, IsHeldRow, IsHandRow, Knows, Holds}
 use Rattle.row_table.specs.Moves.{NotInHand}
-use Rattle.row_table.specs.Books.{given, region, book_core, swept_rows, put_list, taken_rows, give_of, MayGive, turned, hand_rows, gave, Learns, turn_says, turn_told, Grants, give_says, give_told}
+use Rattle.row_table.specs.Books.{given, region, swept_rows, taken_rows, give_of, MayGive, turned, hand_rows, gave, Learns, turn_says, turn_told, give_says, give_told}
 use Rattle.row_table.proofs.Told.{same_front}
 use Rattle.row_table.proofs.Shown.{ShowSame, book_shows}
 use Rattle.row_table.proofs.Frames.{moved, moved_here, knows_shown, unchanged, contents_booked}

@@ -1,5 +1,5 @@
 -- What a view says of the core for which the table stands.
-use Rattle.std.proofs.Common.{◌≡◌, ◌≢◌, ℕ, zero, suc, ◌+◌, ◌<◌, ◌≤◌, ◌⊎◌, true, false, not, cond, Bool, List, [], ◌∷◌, ◌++◌, map, length, get_or, sym, refl, ap, ◌∙◌, subst, inl, inr, ⊎_elim, arith, eqb, eq-eqb, ne_eqb}
+use Rattle.std.proofs.Common.{◌≡◌, ℕ, zero, suc, ◌⊎◌, true, false, not, cond, Bool, List, [], ◌∷◌, map, length, get_or, sym, refl, ap, ◌∙◌, subst, inl, inr, ⊎_elim, arith, eqb}
 use Rattle.std.specs.List.{Contains, filter}
 use mathlib.Core.Option.{some}
 use mathlib.Core.Logic.{dite}
@@ -8,13 +8,12 @@ use lib.ListN.{get_elem?}
 use Rattle.atomic_table.proofs.Lists.{at_map}
 use Rattle.walk_core.specs.declared.pass.PassCore.{PassCore}
 use Rattle.walk_core.specs.Words.{entry_at, is_link, link_row}
-use Rattle.walk_core.specs.Lists.{times, Has, without}
-use Rattle.walk_core.specs.Core.{Core, word, pass_at, idle, times_in_hand, IsLinked}
+use Rattle.walk_core.specs.Lists.{Has, without}
+use Rattle.walk_core.specs.Core.{Core, pass_at, idle, times_in_hand, IsLinked}
 use Rattle.walk_core.specs.Guards.{StandsOn, HoldsLinker}
-use Rattle.walk_core.specs.Good.{Good}
 use Rattle.walk_core.proofs.RowLists.{times-nil, times-cons, times-cons_same, times-cons_other}
 use Rattle.walk_core.proofs.Facts.{hand-le-out, held_linked}
-use Rattle.walk_core.proofs.Keeps.{found_there, found_is}
+use Rattle.walk_core.proofs.Keeps.{found_is}
 use Rattle.row_layout.specs.declared.places.Layout.{Layout}
 use Rattle.row_table.specs.declared.view.PassView.{PassView}
 use Rattle.row_table.specs.declared.view.HeldRow.{HeldRow}

@@ -8,7 +8,7 @@
 --     Learns      what a turn that got the book tells
 --     turn_says, turn_told, Grants, give_says, give_told      what a step tells its seat
 --     Turns, Gives, IsGivable      what a turn answers, what a give does, and when it may
-use Rattle.std.specs.Prelude.{◌≡◌, ◌≢◌, ℕ, ◌+◌, ◌%◌, ◌<◌, ◌≤◌, ◌⊎◌, Bool, not, true, false, List, [], ◌∷◌, ◌++◌, map, slice_index, Option, None, Some}
+use Rattle.std.specs.Prelude.{◌≡◌, ◌≢◌, ℕ, ◌+◌, ◌%◌, ◌<◌, ◌≤◌, ◌⊎◌, not, true, false, List, [], ◌∷◌, ◌++◌, map, slice_index, None, Some}
 use Rattle.std.specs.List.{Contains, filter}
 use Rattle.atomic_table.specs.Table.{Step, rest}
 use Rattle.table_place.specs.declared.Place.{Place}
@@ -24,7 +24,7 @@ use Rattle.walk_core.specs.Events.{newly_granted, unlinked_after_give, free_afte
 use Rattle.walk_core.specs.Guards.{Guard, put_rows}
 use Rattle.walk_core.specs.Good.{sample_of}
 use Rattle.row_layout.specs.declared.places.Layout.{Layout}
-use Rattle.row_table.specs.declared.plan.Content.TheVariants.{Row, Book}
+use Rattle.row_table.specs.declared.plan.Content.TheVariants.{Book}
 use Rattle.row_table.specs.declared.answers.Turned.{Turned}
 use Rattle.row_table.specs.declared.answers.Turned.TheVariants.{Got, Held}
 use Rattle.row_table.specs.declared.view.PassView.{PassView}

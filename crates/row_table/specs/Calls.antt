@@ -1,6 +1,6 @@
 -- What the calls of a pass answer.
 --     Grabs      a grab
-use Rattle.std.specs.Prelude.{◌≡◌, ℕ, ◌+◌, None}
+use Rattle.std.specs.Prelude.{◌≡◌, ℕ, None}
 use Rattle.table_place.specs.declared.Place.{Place}
 use Rattle.walk_core.specs.Words.{held_by, stale}
 use Rattle.row_table.specs.declared.answers.Grabbed.{Grabbed}

@@ -5,7 +5,7 @@
 --     IsGoodEnd      the words and the book's lists are those of a good core
 --     AtEnd      what holds of the words and the slots of a closed table, whose passes knew this
 --     KnownAtEnd, IsClosed      the same of what the table is closed into
-use Rattle.std.specs.Prelude.{◌≡◌, ℕ, suc, zero, ◌%◌, ◌<◌, true, false, List, [], map, length, slice_index, Option, None, Some}
+use Rattle.std.specs.Prelude.{◌≡◌, ℕ, suc, zero, ◌%◌, ◌<◌, true, false, List, [], length, slice_index, None, Some}
 use Rattle.std.specs.List.{Contains}
 use mathlib.Core.Option.{some}
 use lib.ListN.{get_elem?}

@@ -5,16 +5,15 @@
 --     grab_says, grab_told, release_told      what a step tells its seat
 --     NotInHand, LinksRow, MayGrab      a row is not in the pass's hand;  a held row links another;  when a pass may grab
 --     Fits, MayRelease      a content that may stand in a row;  when a pass may release
-use Rattle.std.specs.Prelude.{◌≡◌, ◌≢◌, ℕ, ◌+◌, ◌<◌, ◌≤◌, Bool, not, true, false, ◌⊎◌, List, [], ◌∷◌, ◌++◌, length, slice_index, nat_eq, Option, None, Some}
+use Rattle.std.specs.Prelude.{◌≡◌, ◌≢◌, ℕ, ◌<◌, ◌≤◌, not, true, false, ◌⊎◌, List, [], ◌∷◌, ◌++◌, slice_index, nat_eq, Option, None, Some}
 use Rattle.std.specs.List.{Contains, filter}
 use Rattle.atomic_table.specs.Table.{Step, rest}
 use Rattle.table_place.specs.declared.Place.{Place}
-use Rattle.walk_core.specs.declared.pass.PassCore.{PassCore}
 use Rattle.walk_core.specs.Words.{lock_at, is_link, link_row, stale}
 use Rattle.walk_core.specs.Lists.{Has, without}
 use Rattle.walk_core.specs.Core.{times_in_hand}
 use Rattle.walk_core.specs.Guards.{StandsOn}
-use Rattle.row_table.specs.declared.plan.Content.TheVariants.{Row, Book}
+use Rattle.row_table.specs.declared.plan.Content.TheVariants.{Row}
 use Rattle.row_table.specs.declared.view.PassView.{PassView}
 use Rattle.row_table.specs.declared.view.HeldRow.{HeldRow}
 use Rattle.row_table.specs.declared.view.Finding.{Finding}

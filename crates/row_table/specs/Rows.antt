@@ -5,7 +5,7 @@
 use Rattle.std.specs.Prelude.{ℕ, List, map, slice_index}
 use Rattle.std.specs.List.{range_with_len}
 use Rattle.table_place.specs.declared.Place.{Place}
-use Rattle.walk_core.specs.Words.{entry_at, lock_at, position_at, generation_at, epoch_at, place_shown}
+use Rattle.walk_core.specs.Words.{entry_at, lock_at, position_at, generation_at, place_shown}
 
 unfoldable pub row_words : List ℕ → ℕ → List ℕ
 row_words words row = map (λ index. slice_index words (entry_at row index)) (range_with_len 0 512)

@@ -16,9 +16,8 @@ use mathlib.Core.Option.{some}
 use mathlib.Core.Option as maybe
 use lib.ListN.{get_elem?}
 use Rattle.atomic_table.specs.Table.{State, Me}
-use Rattle.table_place.specs.declared.Place.{Place}
 use Rattle.walk_core.specs.declared.pass.PassCore.{PassCore}
-use Rattle.walk_core.specs.Words.{lock_at, epoch_at, book_at, stale}
+use Rattle.walk_core.specs.Words.{epoch_at, book_at, stale}
 use Rattle.walk_core.specs.Lists.{times}
 use Rattle.walk_core.specs.Core.{Core, idle, granted_rows, times_in_hand}
 use Rattle.walk_core.specs.Good.{Good}

@@ -4,13 +4,12 @@
 --     MayStart      what rows and book a table may start with
 --     first_pass, other_passes      how the passes of a seat are cut in two
 --     new_view      what a pass knows at the start
-use Rattle.std.specs.Prelude.{◌≡◌, ℕ, ◌-◌, ◌<◌, ◌≤◌, List, [], ◌∷◌, ◌++◌, map, length, Option, Some}
+use Rattle.std.specs.Prelude.{◌≡◌, ℕ, ◌-◌, ◌<◌, ◌≤◌, List, [], ◌∷◌, ◌++◌, map, length, Some}
 use Rattle.std.specs.List.{range_with_len}
 use mathlib.Core.Option.{some}
 use lib.ListN.{get_elem?}
 use Rattle.walk_core.specs.Core.{boot}
 use Rattle.row_layout.specs.declared.places.Layout.{Layout}
-use Rattle.row_table.specs.declared.plan.Content.{Content}
 use Rattle.row_table.specs.declared.plan.Content.TheVariants.{Row, Book}
 use Rattle.row_table.specs.declared.view.PassView.{PassView}
 use Rattle.row_table.specs.Plan.{Meaning}

@@ -1,5 +1,5 @@
 -- A small plan for tests: a book of pairs of a thread and a number, to which a hold adds at most one.
-use Rattle.std.specs.Prelude.{◌≡◌, ℕ, ◌≤◌, ⊤, false, List, []}
+use Rattle.std.specs.Prelude.{ℕ, ◌≤◌, ⊤, false, []}
 use Rattle.std.specs.Global.{Vec}
 use Rattle.row_table.specs.Plan.{Meaning, IsLawful, HasGrown}
 

@@ -39,11 +39,7 @@ fn made<R: Drop>(alloc: Global, layout: &Layout, count: usize) -> Result<Rooms<R
     })
 }
 
-pub fn store<R: Drop>(
-    alloc: Global,
-    layout: &Layout,
-    count: usize,
-) -> Result<Store<R>, AllocError>
+pub fn store<R: Drop>(alloc: Global, layout: &Layout, count: usize) -> Result<Store<R>, AllocError>
     requires { count ≡ word_count layout.now }
     ensures { IfOk result (λ s. (s.shared.table_id.slots ≡ 1) × (s.shared.key ≡ layout.now)) }
 {

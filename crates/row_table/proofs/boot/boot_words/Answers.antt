@@ -1,4 +1,4 @@
-use Rattle.std.proofs.Common.{◌≡◌, ◌+◌, ℕ, List, map, length, arith, sym, ap, refl, ◌∙◌, subst}
+use Rattle.std.proofs.Common.{◌+◌, arith}
 use Rattle.row_table.proofs.Start.{words_listed, if_ok}
 use Rattle.row_table.proofs.boot.boot_words.Goals as goal
 

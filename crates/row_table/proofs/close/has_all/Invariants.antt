@@ -1,4 +1,4 @@
-use Rattle.std.proofs.Common.{◌≡◌, ℕ, ◌<◌, ◌≤◌, map}
+use Rattle.std.proofs.Common.{ℕ, ◌<◌, map}
 use Rattle.walk_core.specs.Lists.{Has}
 use Rattle.row_table.proofs.close.has_all.Given as goal
 

@@ -1,6 +1,6 @@
-use Rattle.std.proofs.Common.{◌≡◌, rules, arith, ℕ, suc, ◌+◌, List, [], ◌∷◌, ◌++◌, take, length, refl, sym, ap, ◌∙◌, subst}
+use Rattle.std.proofs.Common.{◌≡◌, rules, arith, ℕ, suc, ◌+◌, List, [], ◌∷◌, ◌++◌, take, sym, ap, ◌∙◌}
 use Rattle.std.specs.Mem.Slots.{slots_items}
-use Rattle.row_table.proofs.End.{take_next, take_whole}
+use Rattle.row_table.proofs.End.{take_next}
 use Rattle.row_table.proofs.close.read_words.Goals as goal
 
 pub loop-place-preserved : goal.loop-place-preserved

@@ -1,8 +1,6 @@
-use Rattle.std.proofs.Common.{◌≡◌, ◌≢◌, rules, arith, ℕ, suc, ◌+◌, ◌<◌, ◌≤◌, true, false, Bool, List, [], ◌∷◌, ◌++◌, get_or, set, length, length-append, refl, sym, ap, ◌∙◌, subst, Option, Some, IsSome, get_or-set_same, get_or-set_other}
+use Rattle.std.proofs.Common.{◌≡◌, rules, arith, ℕ, ◌+◌, false, Bool, List, [], ◌∷◌, get_or, length, length-append, sym, ap, ◌∙◌, subst, Option, Some, IsSome}
 use Rattle.std.specs.Mem.Slots.{slots_filled, slots_items, slots_len}
 use mathlib.Core.Option.{some, some-injective}
-use mathlib.Core.Logic.{dite}
-use native.Mathlib.Decide.{ℕ_discrete}
 use lib.ListN.{get_elem?}
 use Rattle.row_table.specs.declared.plan.Content.{Content}
 use Rattle.row_table.specs.declared.plan.Content.TheVariants.{Row}

@@ -1,4 +1,4 @@
-use Rattle.std.proofs.Common.{◌≡◌, rules, arith, ◌+◌, ◌-◌, ◌++◌, ◌∷◌, [], List, ℕ, subst, sym, refl, ap, ◌∙◌}
+use Rattle.std.proofs.Common.{rules, arith, ◌+◌, ◌-◌, List, ℕ, subst, sym, refl, ap, ◌∙◌}
 use Rattle.walk_core.specs.Lists.{times}
 use Rattle.row_table.specs.Stack.{outs, Ahead}
 use Rattle.row_table.proofs.Stacks.{ahead_all, ahead_turned, outs_turned, times_turned}

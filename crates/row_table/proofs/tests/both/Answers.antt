@@ -1,4 +1,4 @@
-use Rattle.std.proofs.Common.{◌≡◌, rules, ℕ, List, [], ◌∷◌, ◌++◌, Vec, Global, sym, ap, ◌∙◌}
+use Rattle.std.proofs.Common.{rules, ℕ, Vec, Global}
 use Rattle.std.proofs.lemmas.List.Elements.{All-nil, All-push, All-same}
 use Rattle.row_table.specs.declared.pass.Pass.{Pass}
 use Rattle.row_table.specs.declared.tests.Tally.{Tally}

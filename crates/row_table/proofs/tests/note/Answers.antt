@@ -1,6 +1,5 @@
-use Rattle.std.proofs.Common.{◌≡◌, arith, ℕ, List, [], ◌∷◌, ◌++◌, sym, ap, ◌∙◌, subst}
+use Rattle.std.proofs.Common.{◌≡◌, sym, ap, ◌∙◌}
 use Rattle.row_table.specs.Rule.{view}
-use Rattle.row_table.specs.Tally.{tally}
 use Rattle.row_table.proofs.Tally.{View, may_add, added}
 use Rattle.row_table.proofs.tests.note.Goals as goal
 

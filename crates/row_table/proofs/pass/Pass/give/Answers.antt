@@ -1,13 +1,12 @@
-use Rattle.std.proofs.Common.{◌≡◌, rules, arith, ℕ, ◌+◌, ◌<◌, List, [], ◌∷◌, ◌++◌, length, drop, refl, sym, ap, ◌∙◌, subst, true, false, Some, None}
+use Rattle.std.proofs.Common.{◌≡◌, rules, arith, ℕ, List, [], ◌∷◌, drop, sym, ap, ◌∙◌, subst, None}
 use Rattle.atomic_table.specs.Table.{rest}
-use Rattle.walk_core.specs.Lists.{times, Has}
+use Rattle.walk_core.specs.Lists.{times}
 use Rattle.walk_core.specs.Words.{book_at}
 use Rattle.row_layout.specs.declared.places.Layout.{Layout}
 use Rattle.row_table.specs.declared.view.PassView.{PassView}
-use Rattle.row_table.specs.declared.plan.Content.TheVariants.{Book}
 use Rattle.row_table.specs.Rule.{Slot, Seat, view, SameRows}
-use Rattle.row_table.specs.Stack.{outs, carried, AreRows}
-use Rattle.row_table.specs.Books.{gave, give_says, MayGive, Gives}
+use Rattle.row_table.specs.Stack.{outs, carried}
+use Rattle.row_table.specs.Books.{gave, MayGive}
 use Rattle.row_table.proofs.Turns.{gives_at}
 use Rattle.row_table.proofs.Told.{Kept, kept_by, one_of, view_of, front_of, put_in, carried_book, carries_no_book}
 use Rattle.row_table.proofs.pass.Pass.give.Goals as goal

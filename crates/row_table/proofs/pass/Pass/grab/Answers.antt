@@ -1,13 +1,9 @@
-use Rattle.std.proofs.Common.{◌≡◌, rules, arith, ℕ, ◌+◌, ◌-◌, ◌<◌, List, [], ◌∷◌, ◌++◌, length, refl, sym, ap, ◌∙◌, subst, true, false, Some, None}
-use Rattle.walk_core.specs.declared.pass.PassCore.{PassCore}
+use Rattle.std.proofs.Common.{◌≡◌, rules, arith, ℕ, ◌+◌, ◌-◌, List, [], ◌∷◌, sym, ap, ◌∙◌, subst, None}
 use Rattle.walk_core.specs.Lists.{times}
-use Rattle.row_table.specs.declared.view.PassView.{PassView}
-use Rattle.row_table.specs.declared.plan.Content.TheVariants.{Row}
-use Rattle.row_table.specs.Rule.{Seat, view, SameRows}
-use Rattle.row_table.specs.Stack.{outs, carried, AreRows}
+use Rattle.row_table.specs.Rule.{view}
 use Rattle.row_table.specs.Moves.{got, looked}
 use Rattle.row_table.proofs.Locks.{grabs_at}
-use Rattle.row_table.proofs.Told.{Kept, kept_by, one_of, view_of, slots_of, front_of, swapped, came_out, not_carried, room_left, carries_row, rows_with}
+use Rattle.row_table.proofs.Told.{Kept, kept_by, view_of, front_of, swapped, came_out, not_carried, room_left, carries_row, rows_with}
 use Rattle.row_table.proofs.pass.Pass.grab.Goals as goal
 
 pub overflow_add-mine : goal.overflow_add-mine

@@ -1,13 +1,12 @@
-use Rattle.std.proofs.Common.{◌≡◌, rules, arith, ℕ, ◌+◌, ◌<◌, List, [], ◌∷◌, ◌++◌, length, drop, refl, sym, ap, ◌∙◌, subst, true, false, Some, None}
+use Rattle.std.proofs.Common.{◌≡◌, rules, arith, ℕ, List, [], ◌∷◌, drop, sym, ap, ◌∙◌, subst, None}
 use Rattle.atomic_table.specs.Table.{rest}
 use Rattle.walk_core.specs.Lists.{times, Has}
 use Rattle.row_table.specs.declared.view.PassView.{PassView}
-use Rattle.row_table.specs.declared.plan.Content.TheVariants.{Row}
-use Rattle.row_table.specs.Rule.{Slot, Seat, view, SameRows}
-use Rattle.row_table.specs.Stack.{outs, carried, AreRows}
+use Rattle.row_table.specs.Rule.{Seat, view, SameRows}
+use Rattle.row_table.specs.Stack.{outs, carried}
 use Rattle.row_table.specs.Moves.{released, NotInHand, Fits}
 use Rattle.row_table.proofs.Locks.{releases_at}
-use Rattle.row_table.proofs.Told.{Kept, kept_by, one_of, view_of, slots_of, front_of, put_in, carried_row, not_carried, carries_less, rows_less}
+use Rattle.row_table.proofs.Told.{Kept, kept_by, one_of, view_of, front_of, put_in, carried_row, carries_less, rows_less}
 use Rattle.row_table.proofs.pass.Pass.release.Goals as goal
 
 pub bring-requires-clause-there : goal.bring-requires-clause-there

@@ -1,12 +1,10 @@
-use Rattle.std.proofs.Common.{◌≡◌, rules, arith, ℕ, ◌+◌, ◌<◌, List, [], ◌∷◌, ◌++◌, length, refl, sym, ap, ◌∙◌, subst, true, false, Some, None}
+use Rattle.std.proofs.Common.{◌≡◌, rules, arith, ℕ, List, [], ◌∷◌, sym, ap, ◌∙◌, subst, None}
 use Rattle.walk_core.specs.Lists.{times}
 use Rattle.walk_core.specs.Words.{book_at}
 use Rattle.row_layout.specs.declared.places.Layout.{Layout}
 use Rattle.row_table.specs.declared.view.PassView.{PassView}
-use Rattle.row_table.specs.declared.answers.Turned.TheVariants.{Got}
-use Rattle.row_table.specs.Rule.{Seat, view, SameRows}
-use Rattle.row_table.specs.Stack.{outs, carried, AreRows}
-use Rattle.row_table.specs.Books.{turned, Learns, Turns}
+use Rattle.row_table.specs.Rule.{Seat, view}
+use Rattle.row_table.specs.Books.{turned, Learns}
 use Rattle.row_table.proofs.Turns.{turns_at}
 use Rattle.row_table.proofs.Told.{Kept, kept_by, view_of, front_of, swapped, book_came_out, room_left, no_book, carries_book}
 use Rattle.row_table.proofs.pass.Pass.turn.Goals as goal

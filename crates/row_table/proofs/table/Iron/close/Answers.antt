@@ -1,5 +1,5 @@
-use Rattle.std.proofs.Common.{◌≡◌, rules, arith, ℕ, ◌+◌, List, [], ◌∷◌, ◌++◌, map, refl, sym, ap, ◌∙◌, subst, Some}
-use Rattle.std.specs.List.{Contains, All}
+use Rattle.std.proofs.Common.{◌≡◌, rules, List, map, sym, ap, subst}
+use Rattle.std.specs.List.{Contains}
 use Rattle.std.proofs.lemmas.List.Elements.{All-contains, All-map}
 use Rattle.row_table.specs.declared.pass.Pass.{Pass}
 use Rattle.row_table.specs.declared.view.PassView.{PassView}
@@ -27,6 +27,8 @@ returns-clause-closed g c =
     let has : HasAll c.args.self.layout.passes (map (λ p. p.number) c.args.passes.items)
     = subst (λ (l : List (Pass g.row.P.Denot g.row.P-Row.Denot g.row.P-Book.Denot g.row.P-Kit.Denot g.row.P-Entry.Denot g.P.Plan)). HasAll c.args.self.layout.passes (map (λ p. p.number) l)) c.as_slice.ensures.value (c.if-not-has_all.ensures.0 (search rules)) in
     let views = ap (λ m. m.0) c.gather-seat.ensures.seat in
-    λ parts e. let same : c.finish.result ≡ parts = cc in
-    (has, subst (λ (x : Parts g.row.P.Denot g.row.P-Row.Denot g.row.P-Book.Denot g.row.P-Kit.Denot g.row.P-Entry.Denot). IsClosed g.P.Plan.meaning c.args.self.layout (map (λ p. view p.seat.me) c.args.passes.items) x.words.items x.epochs.items x.rows.items x.book) same
-    (subst (λ (l : List (PassView g.row.P-Row.Denot g.row.P-Book.Denot g.row.P-Entry.Denot)). IsClosed g.P.Plan.meaning c.args.self.layout l c.finish.result.words.items c.finish.result.epochs.items c.finish.result.rows.items c.finish.result.book) views c.finish.ensures))
+    λ parts e. let same : c.finish.result ≡ parts = cc in (
+      has,
+      subst (λ (x : Parts g.row.P.Denot g.row.P-Row.Denot g.row.P-Book.Denot g.row.P-Kit.Denot g.row.P-Entry.Denot). IsClosed g.P.Plan.meaning c.args.self.layout (map (λ p. view p.seat.me) c.args.passes.items) x.words.items x.epochs.items x.rows.items x.book) same
+          (subst (λ (l : List (PassView g.row.P-Row.Denot g.row.P-Book.Denot g.row.P-Entry.Denot)). IsClosed g.P.Plan.meaning c.args.self.layout l c.finish.result.words.items c.finish.result.epochs.items c.finish.result.rows.items c.finish.result.book) views c.finish.ensures),
+    )

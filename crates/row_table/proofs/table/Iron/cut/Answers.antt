@@ -1,12 +1,11 @@
-use Rattle.std.proofs.Common.{◌≡◌, rules, arith, ℕ, ◌+◌, List, [], ◌∷◌, ◌++◌, refl, sym, ap, ◌∙◌, subst, false, Some}
-use Rattle.walk_core.specs.Lists.{times}
+use Rattle.std.proofs.Common.{◌≡◌, rules, arith, [], ◌∷◌, refl, sym, ap, ◌∙◌, subst, false, Some}
 use Rattle.walk_core.proofs.RowLists.{times-nil}
 use Rattle.row_table.specs.declared.view.PassView.{PassView}
-use Rattle.row_table.specs.Rule.{Slot, Seat, view, SameRows, unmoved}
-use Rattle.row_table.specs.Stack.{outs, carried, AreRows}
+use Rattle.row_table.specs.Rule.{Seat, SameRows, unmoved}
+use Rattle.row_table.specs.Stack.{carried}
 use Rattle.row_table.specs.Start.{first_pass}
 use Rattle.row_table.proofs.Start.{cuts}
-use Rattle.row_table.proofs.Told.{Kept, kept_by, view_of}
+use Rattle.row_table.proofs.Told.{Kept, kept_by}
 use Rattle.row_table.proofs.table.Iron.cut.Goals as goal
 
 pub split_seat-requires : goal.split_seat-requires

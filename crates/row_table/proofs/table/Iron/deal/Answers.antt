@@ -1,5 +1,5 @@
-use Rattle.std.proofs.Common.{◌≡◌, rules, arith, ℕ, suc, ◌+◌, ◌-◌, ◌<◌, List, [], ◌∷◌, ◌++◌, length, length-append, append_assoc, map, refl, sym, ap, ◌∙◌, subst, Option, Some}
-use Rattle.std.specs.List.{All, range_with_len}
+use Rattle.std.proofs.Common.{◌≡◌, arith, ℕ, ◌+◌, ◌-◌, [], ◌∷◌, ◌++◌, length, length-append, append_assoc, map, sym, ap, ◌∙◌, Some}
+use Rattle.std.specs.List.{range_with_len}
 use Rattle.std.proofs.lemmas.List.{map-append}
 use Rattle.std.proofs.lemmas.List.Elements.{All-push, All-same}
 use Rattle.row_table.specs.declared.pass.Pass.{Pass}

@@ -1,4 +1,4 @@
-use Rattle.std.proofs.Common.{◌≡◌, ℕ, ◌+◌, ◌-◌, ◌<◌, ◌≤◌, List, [], ◌∷◌, ◌++◌, length, map, Some}
+use Rattle.std.proofs.Common.{◌≡◌, ◌-◌, [], ◌++◌, length, map, Some}
 use Rattle.std.specs.List.{All, range_with_len}
 use Rattle.row_table.specs.Rule.{unmoved, boot_from, view}
 use Rattle.row_table.proofs.table.Iron.deal.Given as goal

@@ -1,4 +1,4 @@
-use Rattle.std.proofs.Common.{◌≡◌, rules, arith, ℕ, ◌+◌, List, [], ◌∷◌, ◌++◌, map, refl, sym, ap, ◌∙◌, subst, append-nil}
+use Rattle.std.proofs.Common.{◌≡◌, arith, List, [], ◌∷◌, ◌++◌, map, sym, ap, ◌∙◌, append-nil}
 use Rattle.row_table.specs.declared.pass.Pass.{Pass}
 use Rattle.row_table.specs.Rule.{view}
 use Rattle.row_table.specs.Stack.{outs}
@@ -16,8 +16,7 @@ join_seat-requires g c =
     let whole : c.loop-pass.yielded ++ x ∷ c.next.new.self.rest.items ≡ c.args.passes.items = ap (λ (l : _). c.loop-pass.yielded ++ l) (sym c.in-Some.ensures.steps.0) ∙ inv.all in
     let F : Pass g.row.P.Denot g.row.P-Row.Denot g.row.P-Book.Denot g.row.P-Kit.Denot g.row.P-Entry.Denot g.P.Plan → Type 0 = λ p. p.seat.table_id ≡ c.args.self.now.table.shared.table_id in
     let G : Pass g.row.P.Denot g.row.P-Row.Denot g.row.P-Book.Denot g.row.P-Kit.Denot g.row.P-Entry.Denot g.P.Plan → Type 0 = λ p. IsIdle (view p.seat.me) in
-    let idle : IsIdle (view x.seat.me) = all_of G c.loop-pass.yielded c.next.new.self.rest.items c.args.passes.items x whole c.requires.idle in
-    (
+    let idle : IsIdle (view x.seat.me) = all_of G c.loop-pass.yielded c.next.new.self.rest.items c.args.passes.items x whole c.requires.idle in (
       inv.table,
       all_of F c.loop-pass.yielded c.next.new.self.rest.items c.args.passes.items x whole c.requires.tables,
       x.stacked ∙ ap outs (nothing_out x.rows (view x.seat.me).core.held x.stack.items (view x.seat.me).core.has_book x.carries idle.held idle.has_not),

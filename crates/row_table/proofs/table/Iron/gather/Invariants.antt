@@ -1,4 +1,4 @@
-use Rattle.std.proofs.Common.{◌≡◌, ℕ, List, [], ◌∷◌, ◌++◌, map}
+use Rattle.std.proofs.Common.{◌≡◌, [], ◌++◌, map}
 use Rattle.row_table.specs.Rule.{view}
 use Rattle.row_table.proofs.table.Iron.gather.Given as goal
 

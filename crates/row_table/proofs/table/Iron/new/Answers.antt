@@ -1,8 +1,5 @@
-use Rattle.std.proofs.Common.{◌≡◌, rules, arith, ℕ, ◌+◌, List, [], ◌∷◌, ◌++◌, get_or, length, map, refl, sym, ap, ◌∙◌, subst, Some}
-use Rattle.std.specs.List.{All, range_with_len}
-use Rattle.row_layout.specs.declared.places.Layout.{Layout}
-use Rattle.row_layout.specs.Places.{word_count}
-use Rattle.row_table.specs.Rule.{unmoved, boot_from, boot_views, view, Holds}
+use Rattle.std.proofs.Common.{◌≡◌, arith, ℕ, ◌+◌, get_or, length, sym, ap, ◌∙◌, subst, Some}
+use Rattle.row_table.specs.Rule.{unmoved, boot_views, Holds}
 use Rattle.atomic_table.specs.Table.{opening}
 use Rattle.row_table.proofs.Start.{starts, long_is, slots_long}
 use Rattle.row_table.proofs.table.Iron.new.Goals as goal
