@@ -5,6 +5,7 @@ ghost use Rattle.text_words.specs.Spelling.{number};
 ghost use Rattle.text_words.specs.Layout.{ended};
 ghost use Rattle.history_text.specs.Outcomes.{IsWritten};
 ghost use Rattle.corten_run.specs.declared.command.Command.TheVariants as command;
+ghost use Rattle.corten_run.specs.declared.command.Command.{Command};
 ghost use Rattle.corten_run.specs.declared.ending.Ending.{Ending};
 ghost use Rattle.corten_run.specs.Commands.{greatest_length};
 ghost use Rattle.corten_run.specs.Endings as definitions;
@@ -82,6 +83,7 @@ fn answer_script<K: Sink>(alloc: Global, bytes: &[u8], sink: &mut K) -> Ending
       write_faults_now = K.faults sink.new;
     }) result }
     ensures read { result ≢ Ending.ReadFailed }
+    ensures other { result ≢ Ending.Illegal }
     ensures write_fault { result ≡ Ending.WriteFailed → Rises (K.faults sink.old) (K.faults sink.new) }
 {
     match read_script(alloc, bytes) {
@@ -138,6 +140,7 @@ pub(crate) fn answer<K: Sink>(alloc: Global, command: Command, bytes: &[u8], sin
       write_faults_now = K.faults sink.new;
     }) result }
     ensures read { result ≢ Ending.ReadFailed }
+    ensures illegal { result ≡ Ending.Illegal → command ≡ Command.Check }
     ensures write_fault { result ≡ Ending.WriteFailed → Rises (K.faults sink.old) (K.faults sink.new) }
 {
     match command {

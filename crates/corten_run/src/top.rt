@@ -44,6 +44,7 @@ fn serve<S: Source, K: Sink>(
     ensures read_fault { result ≡ Ending.ReadFailed → Rises (S.faults source.old) (S.faults source.new) × (sink.new ≡ sink.old) }
     ensures write_fault { result ≡ Ending.WriteFailed → Rises (K.faults sink.old) (K.faults sink.new) }
     ensures words { result ≢ Ending.Usage }
+    ensures illegal { result ≡ Ending.Illegal → command ≡ Command.Check }
 {
     match read_whole(alloc, source, greatest_length(command)) {
         Ok(ReadWhole::All(bytes)) => answer(alloc, command, bytes.as_slice(), sink),
@@ -101,6 +102,8 @@ pub fn corten_plain<S: Source, K: Sink>(
     // Other bytes are refused.
     ensures refuses { (command : Command) → Names (map string_bytes words.now) command → ¬ (Rises (S.faults source.old) (S.faults source.new))
         → IfSome (S.left source.old) (λ bytes. (length bytes ≤ definitions.greatest_length command → IsNoText command bytes) → (result ≡ 1) ⊎ (result ≡ 5)) }
+    // What is found not to be legal is a history.
+    ensures illegal { result ≡ 6 → Names (map string_bytes words.now) command.Check }
     ensures status { result ≤ 6 }
 {
     let Some(command) = read_command(words) else {
