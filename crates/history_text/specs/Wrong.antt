@@ -1,5 +1,6 @@
 -- What is wrong with a history, before its lines are counted.
 --     IsWrongAt      the first answered call whose reply is not the step's
+--     AreTablesRight      the account line of page tables is that of a state
 --     WrongAccount      the first account line that is not that of a state
 use Rattle.std.specs.Prelude.{◌≡◌, ◌≢◌, ℕ, ◌+◌, ◌≤◌, List, ◌∷◌, ◌++◌, length}
 use Rattle.corten_base.specs.declared.calls.Entry.{Entry}

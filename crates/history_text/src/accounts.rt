@@ -70,7 +70,7 @@ pub(crate) fn tables_counts(accounts: &Accounts) -> Counts
 }
 
 /// Adds the lines after the entries. After want of memory some of them may stand there.
-pub fn push_accounts(out: &mut Vec<u8>, accounts: &Accounts) -> Result<(), AllocError>
+pub(crate) fn push_accounts(out: &mut Vec<u8>, accounts: &Accounts) -> Result<(), AllocError>
     ensures { OnOk result (out.new.items ≡ out.old.items ++ text (account_lines accounts.now)) }
 {
     push_counts(out, b"frames", b"free", b"mapped", frames_counts(accounts))?;

@@ -24,7 +24,7 @@ fn push_answer(out: &mut Vec<u8>, thread: u8, call: &Call, reply: &Reply) -> Res
 }
 
 /// Adds an answered call's line. After want of memory some of it may stand there.
-pub fn push_entry(
+pub(crate) fn push_entry(
     out: &mut Vec<u8>,
     thread: u8,
     call: &Call,

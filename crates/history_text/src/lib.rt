@@ -18,9 +18,9 @@ mod reply_names;
 mod verdict;
 mod writer;
 
-pub use accounts::{push_accounts, push_header};
+pub use accounts::push_header;
 pub use checking::check;
-pub use entries::{print_entry, push_entry, read_entry};
+pub use entries::{print_entry, read_entry};
 pub use history::History;
 pub use laws::{
     a_history_has_one_verdict, a_line_has_one_entry, a_text_has_one_first_fault,
@@ -28,9 +28,8 @@ pub use laws::{
     printing_and_reading_are_inverse, words_begin_with_one_entry,
 };
 pub use reading::read_history;
-pub use replies::{next_reply, push_reply};
 pub use verdict::Verdict;
-pub use writer::{Written, pass_on, pass_on_many, write_accounts, write_entry, write_history};
+pub use writer::{Written, write_accounts, write_entry, write_history};
 
 #[cfg(test)]
 mod tests;

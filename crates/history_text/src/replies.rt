@@ -1,5 +1,5 @@
 //! Replies as words.
-ghost use Rattle.std.specs.Prelude.{◌≡◌, ◌≢◌, ◌++◌, [], ◌∷◌, ℕ, List, OnOk, IfOk, IfSome, IfNone, codes};
+ghost use Rattle.std.specs.Prelude.{◌≡◌, ◌≢◌, ◌++◌, [], ◌∷◌, ℕ, List, OnOk, OnErr, IfOk, IfSome, IfNone, codes};
 ghost use Rattle.text_words.specs.Spelling.{number, address};
 ghost use Rattle.text_words.specs.Layout.{joined};
 ghost use Rattle.corten_base.specs.declared.calls.Reply.{Reply};
@@ -14,21 +14,24 @@ use text_words::{Word, Words, push_words};
 
 /// Adds a word and an address.
 fn push_at(out: &mut Vec<u8>, name: &[u8], at: u64) -> Result<(), AllocError>
-    ensures { OnOk result (out.new.items ≡ out.old.items ++ joined (name.now ∷ address at ∷ [])) }
+    ensures ok { OnOk result (out.new.items ≡ out.old.items ++ joined (name.now ∷ address at ∷ [])) }
+    ensures err { OnErr result (out.new.items ≡ out.old.items) }
 {
     push_words(out, &[Word::Plain(name), Word::Address(at)])
 }
 
 /// Adds a word and a number.
 fn push_count(out: &mut Vec<u8>, name: &[u8], count: u64) -> Result<(), AllocError>
-    ensures { OnOk result (out.new.items ≡ out.old.items ++ joined (name.now ∷ number count ∷ [])) }
+    ensures ok { OnOk result (out.new.items ≡ out.old.items ++ joined (name.now ∷ number count ∷ [])) }
+    ensures err { OnErr result (out.new.items ≡ out.old.items) }
 {
     push_words(out, &[Word::Plain(name), Word::Number(count)])
 }
 
 /// Adds a word and two numbers.
 fn push_need(out: &mut Vec<u8>, name: &[u8], free: u32, need: u32) -> Result<(), AllocError>
-    ensures { OnOk result (out.new.items ≡ out.old.items ++ joined (name.now ∷ number free ∷ number need ∷ [])) }
+    ensures ok { OnOk result (out.new.items ≡ out.old.items ++ joined (name.now ∷ number free ∷ number need ∷ [])) }
+    ensures err { OnErr result (out.new.items ≡ out.old.items) }
 {
     push_words(
         out,
@@ -42,7 +45,8 @@ fn push_need(out: &mut Vec<u8>, name: &[u8], free: u32, need: u32) -> Result<(),
 
 /// Adds which operation of a transaction was refused, and why.
 fn push_undone(out: &mut Vec<u8>, operation: u8, why: Why) -> Result<(), AllocError>
-    ensures { OnOk result (out.new.items ≡ out.old.items ++ joined (reply_words (Reply.Undone operation why))) }
+    ensures ok { OnOk result (out.new.items ≡ out.old.items ++ joined (reply_words (Reply.Undone operation why))) }
+    ensures err { OnErr result (out.new.items ≡ out.old.items) }
 {
     let operation = Word::Number(u64::from(operation));
     let undone = Word::Plain(b"undone");
@@ -61,7 +65,8 @@ fn push_undone(out: &mut Vec<u8>, operation: u8, why: Why) -> Result<(), AllocEr
 
 /// Adds how many page tables are linked, how many are in limbo, and how many are wanted.
 fn push_no_tables(out: &mut Vec<u8>, linked: u32, limbo: u32, need: u64) -> Result<(), AllocError>
-    ensures { OnOk result (out.new.items ≡ out.old.items ++ joined (reply_words (Reply.NoTables linked limbo need))) }
+    ensures ok { OnOk result (out.new.items ≡ out.old.items ++ joined (reply_words (Reply.NoTables linked limbo need))) }
+    ensures err { OnErr result (out.new.items ≡ out.old.items) }
 {
     push_words(
         out,
@@ -74,9 +79,10 @@ fn push_no_tables(out: &mut Vec<u8>, linked: u32, limbo: u32, need: u64) -> Resu
     )
 }
 
-/// Adds a reply's words. After want of memory nothing is added.
-pub fn push_reply(out: &mut Vec<u8>, reply: &Reply) -> Result<(), AllocError>
-    ensures { OnOk result (out.new.items ≡ out.old.items ++ joined (reply_words reply.now)) }
+/// Adds a reply's words.
+pub(crate) fn push_reply(out: &mut Vec<u8>, reply: &Reply) -> Result<(), AllocError>
+    ensures ok { OnOk result (out.new.items ≡ out.old.items ++ joined (reply_words reply.now)) }
+    ensures err { OnErr result (out.new.items ≡ out.old.items) }
 {
     match reply {
         Reply::Ok => push_words(out, &[Word::Plain(b"ok")]),
@@ -108,7 +114,7 @@ pub fn push_reply(out: &mut Vec<u8>, reply: &Reply) -> Result<(), AllocError>
 }
 
 /// Takes the words of a reply from the front of those that are left.
-pub fn next_reply(alloc: Global, words: &mut Words<'_>) -> Result<Option<Reply>, AllocError>
+pub(crate) fn next_reply(alloc: Global, words: &mut Words<'_>) -> Result<Option<Reply>, AllocError>
     ensures found { IfOk result (λ read. IfSome read (λ reply. IsReply reply × (words.old ≡ reply_words reply ++ words.new))) }
     ensures none { IfOk result (λ read. IfNone read ((reply : Reply) (rest : List (List ℕ)) →
         IsReply reply → words.old ≢ reply_words reply ++ rest)) }

@@ -31,8 +31,9 @@ pub enum Written {
 }
 
 /// Hands the bytes that wait to the sink, and answers whether the sink took them all.
-pub fn pass_on<K: Sink>(waiting: &mut Vec<u8>, sink: &mut K) -> bool
+pub(crate) fn pass_on<K: Sink>(waiting: &mut Vec<u8>, sink: &mut K) -> bool
     ensures whole { OnTrue result (HasWritten (K.held sink.old) (K.held sink.new) waiting.old.items × (waiting.new.items ≡ [])) }
+    ensures cleared { waiting.new.items ≡ [] }
     ensures part { OnFalse result (HasWrittenPart (K.held sink.old) (K.held sink.new) waiting.old.items) }
     ensures count { K.faults sink.old ≤ K.faults sink.new }
     ensures failed { OnFalse result (Rises (K.faults sink.old) (K.faults sink.new)) }
@@ -43,7 +44,7 @@ pub fn pass_on<K: Sink>(waiting: &mut Vec<u8>, sink: &mut K) -> bool
 }
 
 /// Hands the bytes that wait to the sink where there are many, and answers whether the sink took them all.
-pub fn pass_on_many<K: Sink>(waiting: &mut Vec<u8>, sink: &mut K) -> bool
+pub(crate) fn pass_on_many<K: Sink>(waiting: &mut Vec<u8>, sink: &mut K) -> bool
     ensures whole { OnTrue result (PassedOn (K.held sink.old) (K.held sink.new) waiting.old.items waiting.new.items) }
     ensures part { OnFalse result (HasWrittenPart (K.held sink.old) (K.held sink.new) waiting.old.items) }
     ensures count { K.faults sink.old ≤ K.faults sink.new }
