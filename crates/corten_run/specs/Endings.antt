@@ -1,12 +1,13 @@
 -- How a call of the program ends.
 --     IsSoloText      what `solo` writes for the bytes of a script
---     verdict_line, IsVerdictText      what `check` writes for the bytes of a history
---     IsText      that they are the text which a command reads
+--     verdict_line, ending_of, IsVerdictText      what `check` writes for the bytes of a history, and how it ends then
 --     Answers      what a command writes for them, where it ends so
+--     IsNoText, IsFirstFault      that they are none of the texts which a command reads, and the number of the first line outside
 --     IsBadLine, IsLongLine, IsRefusal      what it writes for other bytes
 --     IsSaid      a line that was written, or a front of it where the sink failed
 --     Refuses      the same for the line that refuses what was read
 --     Sides      what a source and a sink tell before a call and after it
+--     WritesPart      a front of a text that a command writes was written
 --     CommandEnds      what each ending of a command says of bytes that the source told
 use Rattle.std.specs.Prelude.{◌≡◌, ℕ, ◌<◌, ◌≤◌, ◌⊎◌, Option, List, [], ◌++◌, length, codes}
 use Rattle.std.specs.Io.KnownBytes.{IsAtEnd}

@@ -2,6 +2,7 @@
 use super::*;
 use corten_base::MemSink;
 use mm_script::ScriptFault;
+use std::alloc::{AllocError, Global};
 use std::test::Fail;
 
 const TABLES: &[u8] =
@@ -22,6 +23,22 @@ fn a_history_is_read_checked_and_written(rt: HostRuntime) -> Result<(), Fail> {
     );
     assert_eq!(rt; written, Written::Whole);
     assert_eq!(rt; sink.bytes(), TABLES);
+    Ok(())
+}
+
+/// Whether the line is printed of the answered call that is read from it.
+fn is_printed_again(alloc: Global, line: &[u8]) -> Result<bool, AllocError> {
+    let Some(entry) = read_entry(alloc, line)? else {
+        return Ok(false);
+    };
+    let text = print_entry(alloc, &entry)?;
+    Ok(text.bytes() == line)
+}
+
+#[test]
+fn entries_are_printed_as_read(rt: HostRuntime) -> Result<(), Fail> {
+    assert!(rt; is_printed_again(rt.alloc(), b"0 load 0 0x0 1 = segv 0x0")?);
+    assert!(rt; is_printed_again(rt.alloc(), b"7 map 0 any 1 rw- zero = notables 1 2 3")?);
     Ok(())
 }
 
