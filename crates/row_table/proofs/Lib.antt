@@ -10,3 +10,4 @@ pub mod Regions
 pub mod Turns
 pub mod End
 pub mod Tally
+pub mod Crossings

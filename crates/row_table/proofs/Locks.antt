@@ -32,7 +32,7 @@ use Rattle.row_table.specs.declared.plan.Content.TheVariants.{Row}
 use Rattle.row_table.specs.Plan.{Meaning}
 use Rattle.row_table.specs.Rows.{row_words, place_at}
 use Rattle.row_table.specs.Rule.{Slot, Homes, Seat, view, IsOne, row_part, core_of, Agrees, IsHeldRow, Knows, Holds}
-use Rattle.row_table.specs.Moves.{grabbed, looked, got, released, NotInHand, grab_says, grab_told, release_told, MayGrab, Fits}
+use Rattle.row_table.specs.Moves.{grabbed, looked, got, released, NotInHand, GrabSays, GrabTells, ReleaseTells, MayGrab, Fits}
 use Rattle.row_table.proofs.Shown.{ShowSame, lock_shows}
 use Rattle.row_table.proofs.Frames.{RowHome, moved_here, knows_shown, contents_locked, home_of, home_moves}
 use Rattle.row_table.proofs.Views.{kept, rows_without, pass_is, is_linked, not_in_hand, guard_grab, has_held}
@@ -101,7 +101,7 @@ module _ {R B E : Type 0} (M : Meaning R B E) where
       (subst (λ (p : Place). M.agrees b p (row_words ws y.row) x) (sym o.place) (subst (λ (xs : List ℕ). M.agrees b y.place xs x) (sym o.shown) at))
 
   pub grabs : (k : Layout) (first : B) (slots id : ℕ) (m : Seat R B E) (n r : ℕ) → IsOne n m → MayGrab (view m) r
-      → Allows (Holds M k first) slots id m (lock_at r) (λ x. either (eqb x 0) (n + 1) x) (grab_told (step slots (lock_at r) 0 (n + 1) none) m)
+      → Allows (Holds M k first) slots id m (lock_at r) (λ x. either (eqb x 0) (n + 1) x) (GrabTells (step slots (lock_at r) 0 (n + 1) none) m)
   grabs k first slots id m n r one may s h long me _ =
       let v : PassView R B E = view m in
       let me' : get_elem? s.views id ≡ some (v ∷ []) = me ∙ ap some one.0 in
@@ -134,7 +134,7 @@ module _ {R B E : Type 0} (M : Meaning R B E) where
             (lock_shows k s.words r (either (eqb found 0) (n + 1) found) less)
             (holds_more k first s.words (set s.words (lock_at r) (either (eqb found 0) (n + 1) found)) h.book v r t.0 (lock_shows k s.words r (either (eqb found 0) (n + 1) found) less) less t.2 know),
         λ q same. let e : r ≡ q = omega arith in
-            subst (grab_says m found (w ∷ [], (r, Some (Row t.0)) ∷ m.1)) e (
+            subst (GrabSays m found (w ∷ [], (r, Some (Row t.0)) ∷ m.1)) e (
               (λ _. (
                 record {
                   place = place;
@@ -165,16 +165,16 @@ module _ {R B E : Type 0} (M : Meaning R B E) where
             shows
             (record { there = now.there; epoch = now.epoch; held = now.held; rows = λ y i. let o = now.rows y i in record { there = o.there; shown = o.shown; place = o.place; agrees = o.agrees }; granted = now.granted; hand = now.hand; found = now.found; origin = now.origin; seen = now.seen; mine = now.mine }),
         λ q same. let e : r ≡ q = omega arith in
-            subst (grab_says m found (w ∷ [], m.1)) e
+            subst (GrabSays m found (w ∷ [], m.1)) e
             ((λ z. absurd (miss z)), λ _. (place, lock_small c r found k.passes (omega arith) (λ p has. held_below c p r h.good has) (h.good.locks.rows.each r less), refl)),
       ))
 
   pub releases : (k : Layout) (first : B) (slots id : ℕ) (m : Seat R B E) (n r : ℕ) (x : R) → IsOne n m → Has (view m).core.held r → NotInHand (view m) r → Fits M (view m) r x → m.1 ≡ (r, Some (Row x)) ∷ rest m.1
-      → Allows (Holds M k first) slots id m (lock_at r) (λ _. 0) (λ _. release_told (step slots (lock_at r) 0 0 none) m 0)
+      → Allows (Holds M k first) slots id m (lock_at r) (λ _. 0) (λ _. ReleaseTells (step slots (lock_at r) 0 0 none) m 0)
   releases k first slots id m n r x one held linked fits front =
       let v : PassView R B E = view m in let cs : List (ℕ × Slot R B) = rest m.1 in
       let is : Path (Seat R B E) (v ∷ [], (r, Some (Row x)) ∷ cs) m = λ i. (sym one.0 i, sym front i) in
-      subst (λ (y : Seat R B E). Allows (Holds M k first) slots id y (lock_at r) (λ _. 0) (λ _. release_told (step slots (lock_at r) 0 0 none) y 0)) is
+      subst (λ (y : Seat R B E). Allows (Holds M k first) slots id y (lock_at r) (λ _. 0) (λ _. ReleaseTells (step slots (lock_at r) 0 0 none) y 0)) is
       (λ s h long me _.
       let mine : get_elem? h.passes v.number ≡ some v = (h.seats id (v ∷ []) me 0 v refl).0 in
       let know = h.knows v.number v mine in
@@ -209,13 +209,13 @@ module _ {R B E : Type 0} (M : Meaning R B E) where
 
   -- the same where the place and the number are known by equations
   pub grabs_at : (k : Layout) (first : B) (slots id : ℕ) (m : Seat R B E) (n r i a : ℕ) → i ≡ lock_at r → a ≡ n → IsOne n m → MayGrab (view m) r
-      → Allows (Holds M k first) slots id m i (λ x. either (eqb x 0) (a + 1) x) (grab_told (step slots i 0 (a + 1) none) m)
+      → Allows (Holds M k first) slots id m i (λ x. either (eqb x 0) (a + 1) x) (GrabTells (step slots i 0 (a + 1) none) m)
   grabs_at k first slots id m n r i a at is one may =
-      subst (λ (j : ℕ). Allows (Holds M k first) slots id m j (λ x. either (eqb x 0) (a + 1) x) (grab_told (step slots j 0 (a + 1) none) m)) (sym at)
-      (subst (λ (b : ℕ). Allows (Holds M k first) slots id m (lock_at r) (λ x. either (eqb x 0) (b + 1) x) (grab_told (step slots (lock_at r) 0 (b + 1) none) m)) (sym is)
+      subst (λ (j : ℕ). Allows (Holds M k first) slots id m j (λ x. either (eqb x 0) (a + 1) x) (GrabTells (step slots j 0 (a + 1) none) m)) (sym at)
+      (subst (λ (b : ℕ). Allows (Holds M k first) slots id m (lock_at r) (λ x. either (eqb x 0) (b + 1) x) (GrabTells (step slots (lock_at r) 0 (b + 1) none) m)) (sym is)
       (grabs k first slots id m n r one may))
 
   pub releases_at : (k : Layout) (first : B) (slots id : ℕ) (m : Seat R B E) (n r i : ℕ) (x : R) → i ≡ lock_at r → IsOne n m → Has (view m).core.held r → NotInHand (view m) r → Fits M (view m) r x → m.1 ≡ (r, Some (Row x)) ∷ rest m.1
-      → Allows (Holds M k first) slots id m i (λ _. 0) (λ _. release_told (step slots i 0 0 none) m 0)
+      → Allows (Holds M k first) slots id m i (λ _. 0) (λ _. ReleaseTells (step slots i 0 0 none) m 0)
   releases_at k first slots id m n r i x at one held linked fits front =
-      subst (λ (j : ℕ). Allows (Holds M k first) slots id m j (λ _. 0) (λ _. release_told (step slots j 0 0 none) m 0)) (sym at) (releases k first slots id m n r x one held linked fits front)
+      subst (λ (j : ℕ). Allows (Holds M k first) slots id m j (λ _. 0) (λ _. ReleaseTells (step slots j 0 0 none) m 0)) (sym at) (releases k first slots id m n r x one held linked fits front)

@@ -19,7 +19,7 @@ use Rattle.walk_core.specs.declared.pass.PassCore.{PassCore}
 use Rattle.walk_core.specs.declared.pass.GrantedRow.{GrantedRow}
 use Rattle.walk_core.specs.Words.{book_at}
 use Rattle.walk_core.specs.Lists.{times, Has, minus}
-use Rattle.walk_core.specs.Core.{Core, word, pass_at, idle, times_in_hand, times_out, IsLinked}
+use Rattle.walk_core.specs.Core.{Core, word, pass_at, idle, no_samples, times_in_hand, times_out, IsLinked}
 use Rattle.walk_core.specs.Events.{newly_granted, free_after}
 use Rattle.walk_core.specs.Guards.{Guard, put_rows}
 use Rattle.walk_core.specs.Good.{Good}
@@ -33,12 +33,12 @@ use Rattle.row_table.specs.declared.view.HandRow.{HandRow}
 use Rattle.row_table.specs.declared.plan.Content.TheVariants.{Book}
 use Rattle.row_table.specs.Plan.{Meaning, IsLawful}
 use Rattle.row_table.specs.Rows.{row_words, place_at, lock_of, generation_of}
-use Rattle.row_table.specs.Rule.{Slot, Homes, Seat, Table, view, IsOne, row_part, hand_part, starts_with, places_from, own_places, SameRows, core_of, IsHeldRow, IsHandRow, Knows, Holds}
+use Rattle.row_table.specs.Rule.{Slot, Homes, Seat, Table, view, IsOne, row_part, hand_part, StartsWith, places_from, own_places, SameRows, core_of, IsHeldRow, IsHandRow, Knows, Holds}
 use Rattle.row_table.specs.Moves.{NotInHand}
-use Rattle.row_table.specs.Books.{given, region, swept_rows, taken_rows, give_of, MayGive, turned, hand_rows, gave, Learns, turn_says, turn_told, give_says, give_told}
+use Rattle.row_table.specs.Books.{given, region, swept_rows, taken_rows, give_of, MayGive, turned, waited, hand_rows, gave, Learns, TurnSays, TurnTells, GiveSays, GiveTells}
 use Rattle.row_table.proofs.Told.{same_front}
 use Rattle.row_table.proofs.Shown.{ShowSame, book_shows}
-use Rattle.row_table.proofs.Frames.{moved, moved_here, knows_shown, unchanged, contents_booked}
+use Rattle.row_table.proofs.Frames.{moved, moved_here, knows_shown, contents_booked}
 use Rattle.row_table.proofs.Views.{head_or_later, pass_is, knows_it, is_linked, held_of_row, has_held}
 use Rattle.row_table.proofs.Regions.{untouched}
 
@@ -103,7 +103,7 @@ module _ {R B E : Type 0} (M : Meaning R B E) where
       }
 
   pub turns : (k : Layout) (first : B) (slots id : ℕ) (m : Seat R B E) (n : ℕ) → IsOne n m → (view m).core.has_book ≡ false
-      → Allows (Holds M k first) slots id m (book_at k.rows k.passes) (λ x. either (eqb x 0) (n + 1) x) (turn_told M (step slots (book_at k.rows k.passes) 0 (n + 1) none) m)
+      → Allows (Holds M k first) slots id m (book_at k.rows k.passes) (λ x. either (eqb x 0) (n + 1) x) (TurnTells M (step slots (book_at k.rows k.passes) 0 (n + 1) none) m)
   turns k first slots id m n one free s h long me _ =
       let i : ℕ = book_at k.rows k.passes in
       let v : PassView R B E = view m in
@@ -141,13 +141,33 @@ module _ {R B E : Type 0} (M : Meaning R B E) where
               seen = ([], sym (append-nil (M.journal b)));
               mine = now.mine;
             }),
-        λ rows same. let e : k.rows ≡ rows = omega arith in subst (turn_says M m found (w ∷ [], (k.rows, Some (Book b)) ∷ m.1)) e ((λ _. (b, learned k first s h v mine, refl)), λ z. absurd (z hit)),
+        λ rows same. let e : k.rows ≡ rows = omega arith in subst (TurnSays M m found (w ∷ [], (k.rows, Some (Book b)) ∷ m.1)) e ((λ _. (b, learned k first s h v mine, refl)), λ z. absurd (z hit)),
       ))
-      (λ miss. (
-        m.0,
+      (λ miss. let b : B = h.book in let w : PassView R B E = waited v found in
+      let number : either (eqb found 0) (n + 1) found ≡ found = ap (λ b. either b (n + 1) found) (ne_eqb found 0 miss) in
+      let shows = book_shows k s.words (either (eqb found 0) (n + 1) found) in
+      let now = knows_shown M k first s.words us b v shows know in (
+        w ∷ [],
         keeps,
         tt,
-        unchanged M k first s id i (either (eqb found 0) (n + 1) found) m.0 h me (ap (λ b. either b (n + 1) found) (ne_eqb found 0 miss)),
+        moved_here M k first s h id v w (Turn n) s.homes me' (sym one.1) refl free
+            (sym (ap (λ b. cond b (record v.core { has_book = true; samples = no_samples }) v.core) (ne_eqb found 0 miss)))
+            refl refl refl
+            (contents_booked M k s.words b b (either (eqb found 0) (n + 1) found) s.homes s.homes near h.contents
+            (λ q ne. refl) (λ _ _ _ _ a. a) (λ z. absurd (miss (sym number ∙ z))))
+            shows
+            (record {
+              there = now.there;
+              epoch = now.epoch;
+              held = now.held;
+              rows = λ y i. let o = now.rows y i in record { there = o.there; shown = o.shown; place = o.place; agrees = o.agrees };
+              granted = now.granted;
+              hand = now.hand;
+              found = now.found;
+              origin = now.origin;
+              seen = now.seen;
+              mine = now.mine;
+            }),
         λ rows same. ((λ z. absurd (miss z)), λ _. (book_small (core_of M k s.words h.passes h.free h.book) h.good, refl)),
       ))
 
@@ -268,7 +288,7 @@ module _ {R B E : Type 0} (M : Meaning R B E) where
               let two = h.good.locks.book.shown v.number (ap (λ (y : PassCore). y.has_book) (pass_is M k first s h v mine) ∙ has) in absurd (apart (omega arith));
           origin = now.origin;
           seen = ⊎_elim
-              (λ (e : M.journal new ≡ M.journal h.book). subst (λ (j : List E). starts_with j u.seen) (sym e) now.seen)
+              (λ (e : M.journal new ≡ M.journal h.book). subst (λ (j : List E). StartsWith j u.seen) (sym e) now.seen)
               (λ (e : (entry : E) × (M.journal new ≡ M.journal h.book ++ entry ∷ [])).
               (now.seen.0 ++ e.0 ∷ [], e.1 ∙ (ap (λ (j : List E). j ++ e.0 ∷ []) now.seen.1 ∙ append_assoc u.seen now.seen.0 (e.0 ∷ [])))) grown;
           mine = now.mine ∙ ⊎_elim
@@ -279,11 +299,11 @@ module _ {R B E : Type 0} (M : Meaning R B E) where
 
   pub gives_back : (k : Layout) (first : B) (slots id : ℕ) (m : Seat R B E) (n : ℕ) (old new : B) → IsLawful M → IsOne n m → (view m).core.has_book ≡ true → (view m).found ≡ Some old → MayGive M k (view m) old new
       → m.1 ≡ (k.rows, Some (Book new)) ∷ rest m.1
-      → Allows (Holds M k first) slots id m (book_at k.rows k.passes) (λ _. 0) (λ _. give_told M (step slots (book_at k.rows k.passes) 0 0 none) m 0)
+      → Allows (Holds M k first) slots id m (book_at k.rows k.passes) (λ _. 0) (λ _. GiveTells M (step slots (book_at k.rows k.passes) 0 0 none) m 0)
   gives_back k first slots id m n old new lawful one has found may front =
       let v : PassView R B E = view m in let cs : List (ℕ × Slot R B) = rest m.1 in
       let is : Path (Seat R B E) (v ∷ [], (k.rows, Some (Book new)) ∷ cs) m = λ i. (sym one.0 i, sym front i) in
-      subst (λ (y : Seat R B E). Allows (Holds M k first) slots id y (book_at k.rows k.passes) (λ _. 0) (λ _. give_told M (step slots (book_at k.rows k.passes) 0 0 none) y 0)) is
+      subst (λ (y : Seat R B E). Allows (Holds M k first) slots id y (book_at k.rows k.passes) (λ _. 0) (λ _. GiveTells M (step slots (book_at k.rows k.passes) 0 0 none) y 0)) is
       (λ s h long me _.
       let i : ℕ = book_at k.rows k.passes in
       let mine : get_elem? h.passes v.number ≡ some v = (h.seats id (v ∷ []) me 0 v refl).0 in
@@ -316,22 +336,22 @@ module _ {R B E : Type 0} (M : Meaning R B E) where
         λ rows a b finds_a fronts.
             let old_is : a ≡ h.book = cc in
             let front_is = same_front _ _ _ _ fronts in let new_is : new ≡ b = cc in
-            subst (λ (x : B). give_says M (v ∷ [], (k.rows, Some (Book new)) ∷ cs) (w ∷ [], cs) x b) (sym old_is)
-            (subst (give_says M (v ∷ [], (k.rows, Some (Book new)) ∷ cs) (w ∷ [], cs) h.book) new_is
+            subst (λ (x : B). GiveSays M (v ∷ [], (k.rows, Some (Book new)) ∷ cs) (w ∷ [], cs) x b) (sym old_is)
+            (subst (GiveSays M (v ∷ [], (k.rows, Some (Book new)) ∷ cs) (w ∷ [], cs) h.book) new_is
             (record { generation = generation_of s.words; low = λ r i. h.generations r (taken_there k first s h v mine lawful has new may_give r i) }, refl)),
       ))
 
   -- the same where the place and the number are known by equations
   pub turns_at : (k : Layout) (first : B) (slots id : ℕ) (m : Seat R B E) (n i a : ℕ) → i ≡ book_at k.rows k.passes → a ≡ n → IsOne n m → (view m).core.has_book ≡ false
-      → Allows (Holds M k first) slots id m i (λ x. either (eqb x 0) (a + 1) x) (turn_told M (step slots i 0 (a + 1) none) m)
+      → Allows (Holds M k first) slots id m i (λ x. either (eqb x 0) (a + 1) x) (TurnTells M (step slots i 0 (a + 1) none) m)
   turns_at k first slots id m n i a at is one free =
-      subst (λ (j : ℕ). Allows (Holds M k first) slots id m j (λ x. either (eqb x 0) (a + 1) x) (turn_told M (step slots j 0 (a + 1) none) m)) (sym at)
-      (subst (λ (b : ℕ). Allows (Holds M k first) slots id m (book_at k.rows k.passes) (λ x. either (eqb x 0) (b + 1) x) (turn_told M (step slots (book_at k.rows k.passes) 0 (b + 1) none) m)) (sym is)
+      subst (λ (j : ℕ). Allows (Holds M k first) slots id m j (λ x. either (eqb x 0) (a + 1) x) (TurnTells M (step slots j 0 (a + 1) none) m)) (sym at)
+      (subst (λ (b : ℕ). Allows (Holds M k first) slots id m (book_at k.rows k.passes) (λ x. either (eqb x 0) (b + 1) x) (TurnTells M (step slots (book_at k.rows k.passes) 0 (b + 1) none) m)) (sym is)
       (turns k first slots id m n one free))
 
   pub gives_at : (k : Layout) (first : B) (slots id : ℕ) (m : Seat R B E) (n i rows : ℕ) (old new : B) → i ≡ book_at k.rows k.passes → rows ≡ k.rows → IsLawful M → IsOne n m → (view m).core.has_book ≡ true → (view m).found ≡ Some old → MayGive M k (view m) old new
       → m.1 ≡ (rows, Some (Book new)) ∷ rest m.1
-      → Allows (Holds M k first) slots id m i (λ _. 0) (λ _. give_told M (step slots i 0 0 none) m 0)
+      → Allows (Holds M k first) slots id m i (λ _. 0) (λ _. GiveTells M (step slots i 0 0 none) m 0)
   gives_at k first slots id m n i rows old new at is lawful one has found may front =
-      subst (λ (j : ℕ). Allows (Holds M k first) slots id m j (λ _. 0) (λ _. give_told M (step slots j 0 0 none) m 0)) (sym at)
+      subst (λ (j : ℕ). Allows (Holds M k first) slots id m j (λ _. 0) (λ _. GiveTells M (step slots j 0 0 none) m 0)) (sym at)
       (gives_back k first slots id m n old new lawful one has found may (front ∙ ap (λ (r : ℕ). (r, Some (Book new)) ∷ rest m.1) is))

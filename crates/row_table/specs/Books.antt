@@ -4,9 +4,9 @@
 --     swept_rows, put_list, taken_rows, give_of      the three lists of a give, by the books before and after, and the event
 --     IsBlocked      each row in limbo has a pass whose sample kept it there
 --     MayGive      when a pass may give the second book, where its turn found the first
---     turned, gave      the pass after a turn that got the book, and after a give
+--     turned, waited, gave      the pass after a turn that got the book, after one that did not, and after a give
 --     Learns      what a turn that got the book tells
---     turn_says, turn_told, Grants, give_says, give_told      what a step tells its seat
+--     TurnSays, TurnTells, Grants, GiveSays, GiveTells      what a step tells its seat
 --     Turns, Gives, IsGivable      what a turn answers, what a give does, and when it may
 use Rattle.std.specs.Prelude.{◌≡◌, ◌≢◌, ℕ, ◌+◌, ◌%◌, ◌<◌, ◌≤◌, ◌⊎◌, not, true, false, List, [], ◌∷◌, ◌++◌, map, slice_index, None, Some}
 use Rattle.std.specs.List.{Contains, filter}
@@ -17,7 +17,7 @@ use Rattle.walk_core.specs.declared.event.Event.{Event}
 use Rattle.walk_core.specs.declared.event.Event.TheVariants.{Give}
 use Rattle.walk_core.specs.declared.lists.PutRow.{PutRow}
 use Rattle.walk_core.specs.declared.pass.SampleBounds.{SampleBounds}
-use Rattle.walk_core.specs.Words.{is_link, link_row}
+use Rattle.walk_core.specs.Words.{is_link, link_row, held_by}
 use Rattle.walk_core.specs.Lists.{times, Has, among, minus}
 use Rattle.walk_core.specs.Core.{Core, no_samples, times_in_hand}
 use Rattle.walk_core.specs.Events.{newly_granted, unlinked_after_give, free_after, limbo_after}
@@ -31,7 +31,7 @@ use Rattle.row_table.specs.declared.view.PassView.{PassView}
 use Rattle.row_table.specs.declared.view.HeldRow.{HeldRow}
 use Rattle.row_table.specs.declared.view.HandRow.{HandRow}
 use Rattle.row_table.specs.Plan.{Meaning, Region}
-use Rattle.row_table.specs.Rule.{Slot, Seat, levels, starts_with, SameRows, view, own_places, core_of, Agrees}
+use Rattle.row_table.specs.Rule.{Slot, Seat, levels, StartsWith, SameRows, view, own_places, core_of, Agrees}
 use Rattle.row_table.specs.Moves.{NotInHand}
 
 abbrev pub given : {R : Type 0} → HeldRow R → HeldRow R
@@ -57,6 +57,10 @@ module _ {R B E : Type 0} where
     holds = IsHeldAt v;
     has = λ space page. ((p : Place) × IsHeldAt v p × (has_page p space page ≡ true)) × ((p : Place) → IsBelow v p → has_page p space page ≡ false);
   }
+
+  -- the pass after a turn that found the word n, which is not 0
+  abbrev pub waited : PassView R B E → ℕ → PassView R B E
+  waited v n = record v { turn = Some n }
 
   module _ (M : Meaning R B E) where
     -- The lists of a give
@@ -96,7 +100,7 @@ module _ {R B E : Type 0} where
     -- What the pass knows afterwards
 
     abbrev pub turned : PassView R B E → B → PassView R B E
-    turned v book = record v { core = record v.core { has_book = true; samples = no_samples }; found = Some book; seen = M.journal book }
+    turned v book = record v { core = record v.core { has_book = true; samples = no_samples }; found = Some book; seen = M.journal book; turn = Some 0 }
 
     -- the rows that a give grants, by the generation of each
     abbrev pub hand_rows : (ℕ → ℕ) → B → B → List ℕ → List HandRow
@@ -117,7 +121,7 @@ module _ {R B E : Type 0} where
 
     -- of a book that was got, where there are so many rows: it goes on from what the pass knows, and its rows are in no other list
     pub record Learns (rows : ℕ) (v : PassView R B E) (book : B) : Type 0 where
-      pub seen : starts_with (M.journal book) v.seen
+      pub seen : StartsWith (M.journal book) v.seen
       pub mine : v.mine ≡ own_places M v.number (M.journal book)
       pub fixed : (first : B) → v.origin ≡ Some first → M.same_fixed first book
       pub agree : (h : HeldRow R) → Contains v.rows h → NotInHand v h.row → Agrees M book v.last h
@@ -126,12 +130,12 @@ module _ {R B E : Type 0} where
       pub there : (r : ℕ) → rows ≤ r → times r (M.free book) + times r (put_rows (M.limbo book)) ≡ 0
 
     -- of a turn that found n, where the book's slot is behind so many rows
-    abbrev pub turn_says : Seat R B E → ℕ → Seat R B E → ℕ → Type 0
-    turn_says m n m' rows = (n ≡ 0 → (book : B) × Learns rows (view m) book × (m' ≡ (turned (view m) book ∷ [], (rows, Some (Book book)) ∷ m.1)))
-        × (n ≢ 0 → (n ≤ 255) × (m' ≡ m))
+    abbrev pub TurnSays : Seat R B E → ℕ → Seat R B E → ℕ → Type 0
+    TurnSays m n m' rows = (n ≡ 0 → (book : B) × Learns rows (view m) book × (m' ≡ (turned (view m) book ∷ [], (rows, Some (Book book)) ∷ m.1)))
+        × (n ≢ 0 → (n ≤ 255) × (m' ≡ (waited (view m) n ∷ [], m.1)))
 
-    abbrev pub turn_told : Step (Slot R B) → Seat R B E → ℕ → Seat R B E → Type 0
-    turn_told st m n m' = (rows : ℕ) → st.slots ≡ rows + 1 → turn_says m n m' rows
+    abbrev pub TurnTells : Step (Slot R B) → Seat R B E → ℕ → Seat R B E → Type 0
+    TurnTells st m n m' = (rows : ℕ) → st.slots ≡ rows + 1 → TurnSays m n m' rows
 
     -- the generation of each row that a give grants is below the next one that the turn found
     pub record Grants (old new : B) : Type 0 where
@@ -139,17 +143,17 @@ module _ {R B E : Type 0} where
       pub low : (r : ℕ) → Has (taken_rows old new) r → generation r < M.next_generation old
 
     -- of a give of the second book, where the turn found the first
-    abbrev pub give_says : Seat R B E → Seat R B E → B → B → Type 0
-    give_says m m' old new = (grants : Grants old new) × (m' ≡ (gave (view m) old new grants.generation ∷ [], rest m.1))
+    abbrev pub GiveSays : Seat R B E → Seat R B E → B → B → Type 0
+    GiveSays m m' old new = (grants : Grants old new) × (m' ≡ (gave (view m) old new grants.generation ∷ [], rest m.1))
 
-    abbrev pub give_told : Step (Slot R B) → Seat R B E → ℕ → Seat R B E → Type 0
-    give_told st m n m' = (rows : ℕ) (old new : B) → (view m).found ≡ Some old → m.1 ≡ (rows, Some (Book new)) ∷ rest m.1 → give_says m m' old new
+    abbrev pub GiveTells : Step (Slot R B) → Seat R B E → ℕ → Seat R B E → Type 0
+    GiveTells st m n m' = (rows : ℕ) (old new : B) → (view m).found ≡ Some old → m.1 ≡ (rows, Some (Book new)) ∷ rest m.1 → GiveSays m m' old new
 
     -- What the calls answer
 
     abbrev pub Turns : ℕ → PassView R B E → Turned B → PassView R B E → Type 0
     Turns rows v (Got book) w = Learns rows v book × (w ≡ turned v book)
-    Turns rows v (Held holder) w = w ≡ v
+    Turns rows v (Held holder) w = w ≡ waited v (held_by holder)
 
     pub record Gives (v : PassView R B E) (new : B) (w : PassView R B E) : Type 0 where
       pub old : B

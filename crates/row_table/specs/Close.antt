@@ -19,7 +19,7 @@ use Rattle.row_table.specs.declared.plan.Content.TheVariants.{Row, Book}
 use Rattle.row_table.specs.declared.view.PassView.{PassView}
 use Rattle.row_table.specs.Plan.{Meaning}
 use Rattle.row_table.specs.Rows.{row_words, place_at}
-use Rattle.row_table.specs.Rule.{Slot, SameRows, starts_with, own_places}
+use Rattle.row_table.specs.Rule.{Slot, SameRows, StartsWith, own_places}
 
 pub record IsIdle {R B E : Type 0} (v : PassView R B E) : Type 0 where
   pub outside : v.core.stand ≡ None
@@ -52,7 +52,7 @@ module _ {R B E : Type 0} (M : Meaning R B E) where
   -- the journal and the epoch word as a pass knew them
   pub record KnownAtEnd (epoch : ℕ) (book : B) (v : PassView R B E) : Type 0 where
     pub same_epoch : epoch ≡ v.epoch
-    pub seen : starts_with (M.journal book) v.seen
+    pub seen : StartsWith (M.journal book) v.seen
     pub mine : v.mine ≡ own_places M v.number (M.journal book)
 
   pub record AtEnd (k : Layout) (views : List (PassView R B E)) (words : List ℕ) (slots : List (Slot R B)) : Type 0 where

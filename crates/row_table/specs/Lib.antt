@@ -4,6 +4,7 @@ pub mod Rule
 pub mod Moves
 pub mod Stack
 pub mod Books
+pub mod Crossings
 pub mod Calls
 pub mod Rooms
 pub mod Close

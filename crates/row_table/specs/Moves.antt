@@ -2,7 +2,7 @@
 --     finding, got, looked      a word that was found;  the pass after a grab that took the row, and after one that did not
 --     released      the pass after a release
 --     Finds      what a grab that took the row found
---     grab_says, grab_told, release_told      what a step tells its seat
+--     GrabSays, GrabTells, ReleaseTells      what a step tells its seat
 --     NotInHand, LinksRow, MayGrab      a row is not in the pass's hand;  a held row links another;  when a pass may grab
 --     Fits, MayRelease      a content that may stand in a row;  when a pass may release
 use Rattle.std.specs.Prelude.{◌≡◌, ◌≢◌, ℕ, ◌<◌, ◌≤◌, not, true, false, ◌⊎◌, List, [], ◌∷◌, ◌++◌, slice_index, nat_eq, Option, None, Some}
@@ -52,15 +52,15 @@ module _ {R B E : Type 0} where
     pub once : ¬ Has v.core.held row
 
   -- of a grab of the row that found n
-  abbrev pub grab_says : Seat R B E → ℕ → Seat R B E → ℕ → Type 0
-  grab_says m n m' row = (n ≡ 0 → (f : Finds row (view m)) × (m' ≡ (got (view m) row f.place f.words f.content ∷ [], (row, Some (Row f.content)) ∷ m.1)))
+  abbrev pub GrabSays : Seat R B E → ℕ → Seat R B E → ℕ → Type 0
+  GrabSays m n m' row = (n ≡ 0 → (f : Finds row (view m)) × (m' ≡ (got (view m) row f.place f.words f.content ∷ [], (row, Some (Row f.content)) ∷ m.1)))
       × (n ≢ 0 → (place : Place) × (n ≤ stale) × (m' ≡ (looked (view m) row place None n ∷ [], m.1)))
 
-  abbrev pub grab_told : Step (Slot R B) → Seat R B E → ℕ → Seat R B E → Type 0
-  grab_told st m n m' = (row : ℕ) → st.word ≡ lock_at row → grab_says m n m' row
+  abbrev pub GrabTells : Step (Slot R B) → Seat R B E → ℕ → Seat R B E → Type 0
+  GrabTells st m n m' = (row : ℕ) → st.word ≡ lock_at row → GrabSays m n m' row
 
-  abbrev pub release_told : Step (Slot R B) → Seat R B E → ℕ → Seat R B E → Type 0
-  release_told st m n m' = (row : ℕ) → st.word ≡ lock_at row → m' ≡ (released (view m) row ∷ [], rest m.1)
+  abbrev pub ReleaseTells : Step (Slot R B) → Seat R B E → ℕ → Seat R B E → Type 0
+  ReleaseTells st m n m' = (row : ℕ) → st.word ≡ lock_at row → m' ≡ (released (view m) row ∷ [], rest m.1)
 
   -- a row that the pass holds has an entry that links the row
   pub record LinksRow (v : PassView R B E) (row : ℕ) : Type 0 where

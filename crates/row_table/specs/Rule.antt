@@ -1,6 +1,6 @@
 -- The rule of the shared table: between any two steps its words, the values at home and the views stand for a good core.
 --     Slot, Homes, Seat, Table      a slot, what stands at home, what one seat knows and has, and the table
---     starts_with, own_places      a journal begins with what was seen;  the places of one thread's entries in a journal
+--     StartsWith, own_places      a journal begins with what was seen;  the places of one thread's entries in a journal
 --     unmoved, boot_views      a pass that has done nothing, and the passes at the start
 --     view, IsOne      what the one pass of a seat knows
 --     core_of      the core for which the table stands
@@ -46,8 +46,8 @@ Table R B E = State (Slot R B) (List (PassView R B E))
 abbrev pub levels : ℕ
 levels = 4
 
-abbrev pub starts_with : {E : Type 0} → List E → List E → Type 0
-starts_with {E} journal seen = (more : List E) × (journal ≡ seen ++ more)
+abbrev pub StartsWith : {E : Type 0} → List E → List E → Type 0
+StartsWith {E} journal seen = (more : List E) × (journal ≡ seen ++ more)
 
 -- the places, from this one on, of the entries of which the test is true
 abbrev pub places_from : {E : Type 0} → (E → Bool) → ℕ → List E → List ℕ
@@ -66,7 +66,7 @@ hand_part x = x.row
 module _ {R B E : Type 0} where
   -- a pass that has done nothing, where the book at the start is known or not
   abbrev pub unmoved : Option B → ℕ → PassView R B E
-  unmoved origin p = record { number = p; core = idle; epoch = 0; rows = []; hand = []; found = None; last = None; origin = origin; seen = []; mine = []; findings = [] }
+  unmoved origin p = record { number = p; core = idle; epoch = 0; rows = []; hand = []; found = None; last = None; origin = origin; seen = []; mine = []; turn = None; findings = [] }
 
   abbrev pub view : Seat R B E → PassView R B E
   view m = slice_index_or m.0 0 (unmoved None 0)
@@ -131,7 +131,7 @@ module _ {R B E : Type 0} where
       pub hand : (x : HandRow) → Contains v.hand x → IsHandRow k words book x
       pub found : v.core.has_book ≡ true → v.found ≡ Some book
       pub origin : v.origin ≡ Some first
-      pub seen : starts_with (M.journal book) v.seen
+      pub seen : StartsWith (M.journal book) v.seen
       pub mine : v.mine ≡ own_places v.number (M.journal book)
 
     pub record Holds (k : Layout) (first : B) (s : Table R B E) : Type 0 where

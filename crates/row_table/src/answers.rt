@@ -19,3 +19,7 @@ pub enum Turned<B: Drop> {
     /// This pass has the book.
     Held(u8),
 }
+
+/// The pass has entered as often as its epoch word can count.
+#[derive(Debug, Drop)]
+pub struct Worn;

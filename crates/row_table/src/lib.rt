@@ -4,6 +4,7 @@
 mod answers;
 mod boot;
 mod close;
+mod crossing;
 mod pass;
 mod plan;
 mod rooms;
@@ -13,7 +14,7 @@ mod table;
 mod tests;
 mod view;
 
-pub use answers::{Grabbed, Turned};
+pub use answers::{Grabbed, Turned, Worn};
 pub use close::{IronClose, Parts};
 pub use pass::Pass;
 pub use plan::{Content, Plan};

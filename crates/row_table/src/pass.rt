@@ -20,17 +20,17 @@ use std::marker::PhantomData;
 struct Grab;
 
 impl<R: Drop, B: Drop, E> Play<Option<Content<R, B>>, LinkedList<PassView<R, B, E>>> for Grab {
-    ghost use Rattle.row_table.specs.Moves.{grab_told};
+    ghost use Rattle.row_table.specs.Moves.{GrabTells};
 
-    ghost then = { grab_told };
+    ghost then = { GrabTells };
 }
 
 struct Release;
 
 impl<R: Drop, B: Drop, E> Play<Option<Content<R, B>>, LinkedList<PassView<R, B, E>>> for Release {
-    ghost use Rattle.row_table.specs.Moves.{release_told};
+    ghost use Rattle.row_table.specs.Moves.{ReleaseTells};
 
-    ghost then = { release_told };
+    ghost then = { ReleaseTells };
 }
 
 struct Turn<P> {
@@ -38,9 +38,9 @@ struct Turn<P> {
 }
 
 impl<P: Plan> Play<Slot<P>, Views<P>> for Turn<P> {
-    ghost use Rattle.row_table.specs.Books.{turn_told};
+    ghost use Rattle.row_table.specs.Books.{TurnTells};
 
-    ghost then = { turn_told P.meaning };
+    ghost then = { TurnTells P.meaning };
 }
 
 struct Give<P> {
@@ -48,9 +48,9 @@ struct Give<P> {
 }
 
 impl<P: Plan> Play<Slot<P>, Views<P>> for Give<P> {
-    ghost use Rattle.row_table.specs.Books.{give_told};
+    ghost use Rattle.row_table.specs.Books.{GiveTells};
 
-    ghost then = { give_told P.meaning };
+    ghost then = { GiveTells P.meaning };
 }
 
 /// The right of one thread to take steps on the table, and what it carries.

@@ -2,7 +2,7 @@ ghost use Rattle.std.specs.Prelude.{◌≡◌, ◌<◌, ℕ, length, IfOk, true}
 ghost use Rattle.row_table.specs.Rule.{view};
 ghost use Rattle.row_table.specs.Close.{IsIdle};
 
-use crate::{Iron, IronClose, Layout, Pass, Plan, Turned};
+use crate::{Grabbed, Iron, IronClose, Layout, Pass, Plan, Turned};
 use std::alloc::{AllocError, Global};
 use std::sync::Wait;
 use std::test::Fail;
@@ -47,6 +47,20 @@ fn made(alloc: Global) -> Result<(Iron<Tally>, Pass<Tally>, Pass<Tally>), AllocE
         return Err(AllocError);
     };
     Ok((iron, first, second))
+}
+
+// The pass enters and tries row 0, on which it stands then.
+fn enter_and_grab(iron: &Iron<Tally>, pass: &mut Pass<Tally>) -> Option<Grabbed<u8>>
+    requires table { pass.old.seat.table_id ≡ iron.now.table.shared.table_id }
+    requires idle { IsIdle (view pass.old.seat.me) }
+{
+    if pass.number() >= iron.layout().passes {
+        return None;
+    }
+    match pass.enter(iron) {
+        Ok(()) => Some(pass.grab(iron, 0)),
+        Err(_) => None,
+    }
 }
 
 // Takes the book, waiting for it, and adds an entry.
@@ -128,5 +142,14 @@ fn a_table_is_not_closed_without_a_pass(rt: HostRuntime) -> Result<(), Fail> {
         IronClose::NotAll(_, back) => back.len(),
     };
     assert_eq!(rt; back, 1);
+    Ok(())
+}
+
+#[test]
+fn a_held_row_names_its_holder(rt: HostRuntime) -> Result<(), Fail> {
+    let (iron, mut first, mut second) = made(rt.alloc())?;
+    let got = matches!(enter_and_grab(&iron, &mut first), Some(Grabbed::Got(_)));
+    let held = matches!(enter_and_grab(&iron, &mut second), Some(Grabbed::Held(0)));
+    assert!(rt; got && held);
     Ok(())
 }

@@ -60,6 +60,8 @@ pub struct PassView<R, B, E> {
     pub seen: LinkedList<E>,
     /// The places of its own entries in the journal.
     pub mine: LinkedList<u64>,
+    /// The word of the book that its last turn found.
+    pub turn: Option<u64>,
     /// The looks and grabs since it entered last.
     pub findings: LinkedList<Finding>,
 }

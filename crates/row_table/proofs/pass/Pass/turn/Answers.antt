@@ -1,10 +1,10 @@
-use Rattle.std.proofs.Common.{◌≡◌, rules, arith, ℕ, List, [], ◌∷◌, sym, ap, ◌∙◌, subst, None}
+use Rattle.std.proofs.Common.{◌≡◌, rules, arith, ℕ, ◌+◌, ◌-◌, List, [], ◌∷◌, sym, ap, ◌∙◌, subst, None}
 use Rattle.walk_core.specs.Lists.{times}
 use Rattle.walk_core.specs.Words.{book_at}
 use Rattle.row_layout.specs.declared.places.Layout.{Layout}
 use Rattle.row_table.specs.declared.view.PassView.{PassView}
-use Rattle.row_table.specs.Rule.{Seat, view}
-use Rattle.row_table.specs.Books.{turned, Learns}
+use Rattle.row_table.specs.Rule.{view}
+use Rattle.row_table.specs.Books.{turned, waited, Learns}
 use Rattle.row_table.proofs.Turns.{turns_at}
 use Rattle.row_table.proofs.Told.{Kept, kept_by, view_of, front_of, swapped, book_came_out, room_left, no_book, carries_book}
 use Rattle.row_table.proofs.pass.Pass.turn.Goals as goal
@@ -61,8 +61,9 @@ returns-then-found-eq0-clause-turns g c =
 pub invariant_of-self-else-found-eq0 : goal.invariant_of-self-else-found-eq0
 invariant_of-self-else-found-eq0 g c =
     let p = c.args.self.now in let t = (c.compare_exchange-found.ensures.2 c.args.iron.now.layout.rows c.args.iron.now.sized.1).1 c.if-found-eq0.false in
-    let before : Kept p.number p.rows p.seat.me p.stack.items = record { one = p.one; stacked = p.stacked; carries = p.carries; held = p.held } in
-    let k : Kept p.number p.rows c.compare_exchange-found.new.seat.me p.stack.items = subst (λ (m : Seat g.row.P-Row.Denot g.row.P-Book.Denot g.row.P-Entry.Denot). Kept p.number p.rows m p.stack.items) (sym t.1) before in
+    let w : PassView g.row.P-Row.Denot g.row.P-Book.Denot g.row.P-Entry.Denot = waited (view p.seat.me) c.compare_exchange-found.result in
+    let k : Kept p.number p.rows c.compare_exchange-found.new.seat.me p.stack.items = kept_by p.number p.rows c.compare_exchange-found.new.seat.me p.stack.items w
+    (t.1 ∙ ap (λ (cs : _). (w ∷ [], cs)) p.stacked) p.one.1 p.carries p.held in
     record {
       one = k.one;
       slots = ap (λ (x : _). x.slots) c.compare_exchange-found.ensures.0 ∙ p.slots;
@@ -74,5 +75,5 @@ invariant_of-self-else-found-eq0 g c =
     }
 
 pub returns-clause-turns : goal.returns-clause-turns
-returns-clause-turns g c = let t = (c.compare_exchange-found.ensures.2 c.args.iron.now.layout.rows c.args.iron.now.sized.1).1 c.if-found-eq0.false in
-    ap view t.1
+returns-clause-turns g c = let t = (c.compare_exchange-found.ensures.2 c.args.iron.now.layout.rows c.args.iron.now.sized.1).1 c.if-found-eq0.false in let other = c.if-found-eq0.false in
+    view_of _ _ _ t.1 ∙ ap (waited (view c.args.self.now.seat.me)) (let e : c.compare_exchange-found.result ≡ c.compare_exchange-found.result - 1 + 1 = omega arith in e)
