@@ -2,7 +2,6 @@
 ghost use Rattle.std.specs.Prelude.{◌≡◌, ◌≤◌, ◌↔◌, ◌⊎◌, [], ◌∷◌, ◌++◌, length, Err, OnOk, OnErr, IfErr};
 
 use crate::calls::TxnOp;
-use smallvec::SmallVec;
 use std::alloc::{AllocError, Global};
 use std::marker::Model;
 use thiserror::Error;
@@ -22,7 +21,7 @@ pub enum AddFault {
 /// At most 16 operations of a transaction, in order.
 #[derive(Debug, Drop)]
 pub struct OpList {
-    ops: SmallVec<TxnOp, 2>,
+    ops: Vec<TxnOp>,
 }
 
 impl Model for OpList {
@@ -42,7 +41,7 @@ impl OpList {
         ensures { result ≡ [] }
     {
         OpList {
-            ops: SmallVec::new(alloc),
+            ops: Vec::new(alloc),
         }
     }
 
@@ -95,7 +94,7 @@ impl Clone for OpList {
 
     fn clone(&self) -> Result<OpList, AllocError> {
         Ok(OpList {
-            ops: SmallVec::from_slice(*self.ops.allocator(), &self.ops)?,
+            ops: Vec::from_slice(*self.ops.allocator(), &self.ops)?,
         })
     }
 }

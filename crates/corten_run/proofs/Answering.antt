@@ -1,17 +1,13 @@
 -- The calls that are left, one after another.
-use Rattle.std.proofs.Common.{◌≡◌, ℕ, ◌+◌, ◌<◌, List, [], ◌∷◌, ◌++◌, ◌∙◌, append_assoc, drop, length, get_or, refl, sym, ap}
-use Rattle.std.proofs.lemmas.List.{drop_more}
+use Rattle.std.proofs.Common.{◌≡◌, ℕ, ◌+◌, ◌<◌, List, [], ◌∷◌, ◌++◌, ◌∙◌, append_assoc, refl, sym, ap}
 use Rattle.corten_base.specs.declared.calls.Call.{Call}
 use Rattle.corten_base.specs.declared.calls.Entry.{Entry}
 use Rattle.page_map.specs.State.{State, IsConsistent}
 use Rattle.page_map.proofs.StepKeeps.{step_keeps}
 use Rattle.page_map.specs.Step.{step}
 use Rattle.text_words.specs.Layout.{ended}
-use Rattle.history_text.specs.HistoryText.{answer_line, entry_line}
-use Rattle.corten_run.specs.Solo.{answered, state_after_calls, all_answered, lines_of}
-
-pub next_of : {X : Type 0} (xs : List X) (i : ℕ) (x : X) → i < length xs → x ≡ get_or xs i x → drop i xs ≡ x ∷ drop (i + 1) xs
-next_of xs i x inside is = drop_more xs i x inside ∙ ap (λ y. y ∷ drop (i + 1) xs) (sym is)
+use Rattle.history_text.specs.HistoryText.{answer_line, entry_line, lines_of}
+use Rattle.corten_run.specs.Solo.{answered, state_after_calls, all_answered}
 
 -- the line of the next call, and then those of the others
 pub next_line : (st : State) (thread : ℕ) (calls left more : List Call) (c : Call) (done : List ℕ) (all : List ℕ) → left ≡ c ∷ more

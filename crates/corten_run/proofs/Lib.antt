@@ -1,5 +1,6 @@
-pub mod Parts
 pub mod Answering
 pub mod Texts
 pub mod Told
 pub mod Single
+pub mod Shown
+pub mod SoloLegal

@@ -1,10 +1,14 @@
 -- How a call of the program ends.
---     greatest_length      the bytes that a script may have
 --     IsSoloText      what `solo` writes for the bytes of a script
+--     verdict_line, ending_of, IsVerdictText      what `check` writes for the bytes of a history, and how it ends then
+--     Answers      what a command writes for them, where it ends so
+--     IsNoText, IsFirstFault      that they are none of the texts which a command reads, and the number of the first line outside
 --     IsBadLine, IsLongLine, IsRefusal      what it writes for other bytes
 --     IsSaid      a line that was written, or a front of it where the sink failed
+--     Refuses      the same for the line that refuses what was read
 --     Sides      what a source and a sink tell before a call and after it
---     SoloEnds      what each ending of `solo` says of bytes that the source told
+--     WritesPart      a front of a text that a command writes was written
+--     CommandEnds      what each ending of a command says of bytes that the source told
 use Rattle.std.specs.Prelude.{◌≡◌, ℕ, ◌<◌, ◌≤◌, ◌⊎◌, Option, List, [], ◌++◌, length, codes}
 use Rattle.std.specs.Io.KnownBytes.{IsAtEnd}
 use Rattle.corten_base.specs.Outside.{Rises}
@@ -12,36 +16,74 @@ use Rattle.byte_streams.specs.Streams.{HasWritten, HasWrittenPart}
 use Rattle.text_words.specs.Spelling.{number}
 use Rattle.text_words.specs.Layout.{ended}
 use Rattle.mm_script.specs.declared.script.Script.{Script}
-use Rattle.mm_script.specs.ScriptText.{IsScriptText, IsFirstFault}
+use Rattle.mm_script.specs.ScriptText as scripts
+use Rattle.history_text.specs.declared.history.History.{History}
+use Rattle.history_text.specs.declared.verdict.Verdict.{Verdict}
+use Rattle.history_text.specs.declared.verdict.Verdict.TheVariants as verdict
+use Rattle.history_text.specs.HistoryText as histories
+use Rattle.history_text.specs.Checking.{IsVerdict}
 use Rattle.corten_run.specs.Solo.{solo_text}
+use Rattle.corten_run.specs.Commands.{greatest_length}
+use Rattle.corten_run.specs.declared.command.Command.{Command}
+use Rattle.corten_run.specs.declared.command.Command.TheVariants.{Solo, Check}
 use Rattle.corten_run.specs.declared.ending.Ending.{Ending}
-use Rattle.corten_run.specs.declared.ending.Ending.TheVariants.{Done, Refused, Usage, ReadFailed, WriteFailed, NoMemory}
-
-abbrev pub greatest_length : ℕ
-greatest_length = 4194304
+use Rattle.corten_run.specs.declared.ending.Ending.TheVariants.{Done, Refused, Usage, ReadFailed, WriteFailed, NoMemory, Illegal}
 
 -- the bytes are a script's text, and this is the text of the one history of its calls
 pub record IsSoloText (bytes written : List ℕ) : Type 0 where
   pub script : Script
-  pub is_text : IsScriptText bytes script
-  pub fits : length bytes ≤ greatest_length
+  pub is_text : scripts.IsScriptText bytes script
+  pub fits : length bytes ≤ greatest_length Solo
   pub history : written ≡ solo_text script
 
--- the bytes are no script's text, and the line names the first line outside the grammar
-pub record IsBadLine (bytes written : List ℕ) : Type 0 where
+abbrev pub verdict_line : Verdict → List ℕ
+verdict_line (verdict.Legal entries) = ended (codes "legal " ++ number entries)
+verdict_line (verdict.Illegal line) = ended (codes "illegal " ++ number line)
+
+abbrev pub ending_of : Verdict → Ending
+ending_of (verdict.Legal entries) = Done
+ending_of (verdict.Illegal line) = Illegal
+
+-- the bytes are a history's text, and this line is what is found of the history, with this ending
+pub record IsVerdictText (bytes : List ℕ) (ending : Ending) (written : List ℕ) : Type 0 where
+  pub history : History
+  pub is_text : histories.IsHistoryText bytes history
+  pub fits : length bytes ≤ greatest_length Check
+  pub verdict : Verdict
+  pub is_verdict : IsVerdict history verdict
+  pub ends : ending ≡ ending_of verdict
+  pub line : written ≡ verdict_line verdict
+
+-- the whole text that a command writes where it ends so
+abbrev pub Answers : Command → List ℕ → Ending → List ℕ → Type 0
+Answers Solo bytes ending written = IsSoloText bytes written × (ending ≡ Done)
+Answers Check bytes ending written = IsVerdictText bytes ending written
+
+-- the bytes are not the text that a command reads
+abbrev pub IsNoText : Command → List ℕ → Type 0
+IsNoText Solo bytes = (script : Script) → ¬ (scripts.IsScriptText bytes script)
+IsNoText Check bytes = (h : History) → ¬ (histories.IsHistoryText bytes h)
+
+-- the number of the first line outside the grammar of the texts that a command reads
+abbrev pub IsFirstFault : Command → List ℕ → ℕ → Type 0
+IsFirstFault Solo = scripts.IsFirstFault
+IsFirstFault Check = histories.IsFirstFault
+
+-- the bytes are no text that the command reads, and the line names the first line outside the grammar
+pub record IsBadLine (command : Command) (bytes written : List ℕ) : Type 0 where
   pub line : ℕ
-  pub fits : length bytes ≤ greatest_length
-  pub no_script : (script : Script) → ¬ (IsScriptText bytes script)
-  pub first : IsFirstFault bytes line
+  pub fits : length bytes ≤ greatest_length command
+  pub no_text : IsNoText command bytes
+  pub first : IsFirstFault command bytes line
   pub bad : written ≡ ended (codes "bad " ++ number line)
 
--- there are more bytes than a script may have
-pub record IsLongLine (bytes written : List ℕ) : Type 0 where
-  pub too_long : greatest_length < length bytes
+-- there are more bytes than such a text may have
+pub record IsLongLine (command : Command) (bytes written : List ℕ) : Type 0 where
+  pub too_long : greatest_length command < length bytes
   pub long : written ≡ ended (codes "long")
 
-abbrev pub IsRefusal : List ℕ → List ℕ → Type 0
-IsRefusal bytes written = IsBadLine bytes written ⊎ IsLongLine bytes written
+abbrev pub IsRefusal : Command → List ℕ → List ℕ → Type 0
+IsRefusal command bytes written = IsBadLine command bytes written ⊎ IsLongLine command bytes written
 
 -- `left` and `held` are what the source and the sink tell, `read_faults` and `write_faults` their counts; `_now` is after the call
 pub record Sides : Type 0 where
@@ -57,16 +99,28 @@ pub record Sides : Type 0 where
 abbrev pub IsSaid : Sides → List ℕ → Type 0
 IsSaid s line = HasWritten s.held s.held_now line ⊎ (HasWrittenPart s.held s.held_now line × Rises s.write_faults s.write_faults_now)
 
+-- a line that refuses what was read was written, or a front of it where the sink failed, or memory ran out before
+abbrev pub Refuses : Option (List ℕ) → Option (List ℕ) → ℕ → ℕ → List ℕ → Ending → Type 0
+Refuses held held_now faults faults_now line Refused = HasWritten held held_now line ⊎ (HasWrittenPart held held_now line × Rises faults faults_now)
+Refuses held held_now faults faults_now line NoMemory = HasWritten held held_now []
+Refuses held held_now faults faults_now line _ = ⊥
+
+-- a front of a text that the command writes was written
+abbrev pub WritesPart : Command → List ℕ → Sides → Type 0
+WritesPart command bytes s = (ending : Ending) × (written : List ℕ) × Answers command bytes ending written × HasWrittenPart s.held s.held_now written
+
 -- the source told these bytes
-abbrev pub SoloEnds : List ℕ → Sides → Ending → Type 0
--- all was read, and the whole text of the history was written
-SoloEnds bytes s Done = (written : List ℕ) × IsSoloText bytes written × HasWritten s.held s.held_now written × IsAtEnd s.left_now
--- the bytes are no script's
-SoloEnds bytes s Refused = (written : List ℕ) × IsRefusal bytes written × IsSaid s written
+abbrev pub CommandEnds : Command → List ℕ → Sides → Ending → Type 0
+-- all was read, and the whole text was written
+CommandEnds command bytes s Done = (written : List ℕ) × Answers command bytes Done written × HasWritten s.held s.held_now written × IsAtEnd s.left_now
+-- the same, where what was read is a history that is not legal
+CommandEnds command bytes s Illegal = (written : List ℕ) × Answers command bytes Illegal written × HasWritten s.held s.held_now written × IsAtEnd s.left_now
+-- the bytes are no such text
+CommandEnds command bytes s Refused = (written : List ℕ) × IsRefusal command bytes written × IsSaid s written
 -- a read failed, and nothing was written
-SoloEnds bytes s ReadFailed = Rises s.read_faults s.read_faults_now × HasWritten s.held s.held_now []
+CommandEnds command bytes s ReadFailed = Rises s.read_faults s.read_faults_now × HasWritten s.held s.held_now []
 -- a write failed, and a front of the text was written
-SoloEnds bytes s WriteFailed = (written : List ℕ) × IsSoloText bytes written × HasWrittenPart s.held s.held_now written × Rises s.write_faults s.write_faults_now
+CommandEnds command bytes s WriteFailed = WritesPart command bytes s × Rises s.write_faults s.write_faults_now
 -- memory ran out, and a front of the text was written, or nothing
-SoloEnds bytes s NoMemory = ((written : List ℕ) × IsSoloText bytes written × HasWrittenPart s.held s.held_now written) ⊎ HasWritten s.held s.held_now []
-SoloEnds bytes s Usage = ⊥
+CommandEnds command bytes s NoMemory = WritesPart command bytes s ⊎ HasWritten s.held s.held_now []
+CommandEnds command bytes s Usage = ⊥

@@ -2,17 +2,17 @@
 -- table in limbo.
 --     answered, state_after_calls      the answered calls of one thread, and the state that they leave
 --     all_answered, state_after_threads      those of all threads
---     solo_entries, solo_accounts, solo_text      the history of a script, its accounts, and the text of both
---     lines_of      the lines of entries
-use Rattle.std.specs.Prelude.{ℕ, ◌+◌, List, [], ◌∷◌, ◌++◌, map}
+--     solo_entries, solo_accounts, solo_history      the answered calls of a script, its accounts, and the history of both
+--     solo_text      the text of that history
+use Rattle.std.specs.Prelude.{ℕ, ◌+◌, List, [], ◌∷◌, ◌++◌}
 use Rattle.corten_base.specs.declared.calls.Call.{Call}
 use Rattle.corten_base.specs.declared.calls.Entry.{Entry}
 use Rattle.corten_base.specs.declared.numbers.Accounts.{Accounts}
 use Rattle.page_map.specs.State.{State, start, accounts}
 use Rattle.page_map.specs.Step.{step}
-use Rattle.text_words.specs.Layout.{text}
 use Rattle.mm_script.specs.declared.script.Script.{Script}
-use Rattle.history_text.specs.HistoryText.{entry_line, history_text}
+use Rattle.history_text.specs.declared.history.History.{History}
+use Rattle.history_text.specs.HistoryText.{history_text}
 
 abbrev pub answered : State → ℕ → List Call → List Entry
 answered st thread [] = []
@@ -30,14 +30,14 @@ abbrev pub state_after_threads : State → ℕ → List (List Call) → State
 state_after_threads st thread [] = st
 state_after_threads st thread (cs ∷ more) = state_after_threads (state_after_calls st thread cs) (thread + 1) more
 
-abbrev pub lines_of : List Entry → List ℕ
-lines_of entries = text (map entry_line entries)
-
 abbrev pub solo_entries : Script → List Entry
 solo_entries script = all_answered (start script.limits []) 0 script.threads
 
 abbrev pub solo_accounts : Script → Accounts
 solo_accounts script = accounts (state_after_threads (start script.limits []) 0 script.threads) 0
 
+abbrev pub solo_history : Script → History
+solo_history script = record { limits = script.limits; entries = solo_entries script; accounts = solo_accounts script }
+
 unfoldable pub solo_text : Script → List ℕ
-solo_text script = history_text script.limits (solo_entries script) (solo_accounts script)
+solo_text script = history_text (solo_history script)

@@ -1,7 +1,8 @@
 //! The words of the command line.
-ghost use Rattle.std.specs.Prelude.{map, IfSome, IfNone};
+ghost use Rattle.std.specs.Prelude.{◌≡◌, map, IfSome, IfNone};
 ghost use Rattle.std.specs.String.{string_bytes};
 ghost use Rattle.corten_run.specs.Commands.{Names};
+ghost use Rattle.corten_run.specs.Commands as definitions;
 ghost use Rattle.corten_run.specs.declared.command.Command.{Command};
 
 /// What the program is told to do.
@@ -9,6 +10,8 @@ ghost use Rattle.corten_run.specs.declared.command.Command.{Command};
 pub enum Command {
     /// Reads a script and runs it on the plain machine.
     Solo,
+    /// Reads a history and says whether it is legal.
+    Check,
 }
 
 /// The command that the words after the program's name spell.
@@ -18,6 +21,17 @@ pub fn read_command(words: &[String]) -> Option<Command>
 {
     match words {
         [word] if word.as_str() == "solo" => Some(Command::Solo),
+        [word] if word.as_str() == "check" => Some(Command::Check),
         _ => None,
+    }
+}
+
+/// The bytes that a script or a history text may have.
+pub fn greatest_length(command: Command) -> usize
+    ensures { result ≡ definitions.greatest_length command }
+{
+    match command {
+        Command::Solo => 4_194_304,
+        Command::Check => 67_108_864,
     }
 }

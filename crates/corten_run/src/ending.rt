@@ -17,6 +17,8 @@ pub enum Ending {
     WriteFailed,
     /// Memory ran out.
     NoMemory,
+    /// The history read is not legal, and a line says where.
+    Illegal,
 }
 
 impl Ending {
@@ -31,6 +33,7 @@ impl Ending {
             Ending::ReadFailed => 3,
             Ending::WriteFailed => 4,
             Ending::NoMemory => 5,
+            Ending::Illegal => 6,
         }
     }
 }

@@ -1,11 +1,14 @@
 //! The commands of the program over any source and sink.
 #![tactic(auto)]
 
+mod answers;
 mod command;
 mod ending;
+mod laws;
 mod script_run;
 mod top;
 
+pub use laws::the_history_of_solo_is_legal;
 pub use top::corten_plain;
 
 #[cfg(test)]

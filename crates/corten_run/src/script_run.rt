@@ -2,16 +2,16 @@
 ghost use Rattle.std.specs.Prelude.{◌≡◌, ◌≤◌, ◌<◌, ◌+◌, ◌++◌, length, All};
 ghost use Rattle.page_map.specs.State.{IsConsistent};
 ghost use Rattle.page_map.specs.Step.{step};
-ghost use Rattle.text_words.specs.Layout.{ended, text};
+ghost use Rattle.text_words.specs.Layout.{ended};
 ghost use Rattle.mm_script.specs.CallLine.{IsCall};
 ghost use Rattle.mm_script.specs.ScriptText.{IsScript};
-ghost use Rattle.history_text.specs.Accounting.{account_lines};
-ghost use Rattle.history_text.specs.HistoryText.{answer_line};
+ghost use Rattle.history_text.specs.HistoryText.{answer_line, lines_of};
 ghost use Rattle.history_text.specs.Outcomes.{GoesOn, IsWritten};
-ghost use Rattle.corten_run.specs.Solo.{answered, state_after_calls, all_answered, state_after_threads, lines_of, solo_text};
+ghost use Rattle.corten_run.specs.Solo.{answered, state_after_calls, all_answered, state_after_threads, solo_text};
 
-use corten_base::{Accounts, Call, CallList, Sink};
-use history_text::{Written, pass_on, pass_on_many, push_accounts, push_entry, push_header};
+use corten_base::{Call, CallList, Sink};
+use file_shelf::Shelf;
+use history_text::{Written, push_header, write_accounts, write_entry};
 use mm_model::{Plain, StepFault};
 use mm_script::Script;
 use std::alloc::Global;
@@ -38,14 +38,7 @@ fn answer_call<K: Sink>(
         Err(StepFault::NoMemory) => return Written::NoMemory,
         Err(StepFault::NotLegal) => unreachable!(),
     };
-    if push_entry(waiting, thread, call, &reply).is_err() {
-        return Written::NoMemory;
-    }
-    if pass_on_many(waiting, sink) {
-        Written::Whole
-    } else {
-        Written::Failed
-    }
+    write_entry(thread, call, &reply, waiting, sink)
 }
 
 /// Answers the calls of one thread, one after another, and writes each.
@@ -103,29 +96,13 @@ fn answer_threads<K: Sink>(
     Written::Whole
 }
 
-/// Writes what waits and the accounts.
-fn finish<K: Sink>(waiting: &mut Vec<u8>, accounts: &Accounts, sink: &mut K) -> Written
-    ensures written { IsWritten (K.held sink.old) (K.held sink.new) (K.faults sink.old) (K.faults sink.new)
-        (waiting.old.items ++ text (account_lines accounts.now)) result }
-    ensures count { K.faults sink.old ≤ K.faults sink.new }
-{
-    let Ok(()) = push_accounts(waiting, accounts) else {
-        return Written::NoMemory;
-    };
-    if pass_on(waiting, sink) {
-        Written::Whole
-    } else {
-        Written::Failed
-    }
-}
-
 /// Runs a script on the plain machine and writes the text of its history.
 pub fn write_solo<K: Sink>(alloc: Global, script: &Script, sink: &mut K) -> Written
     requires { IsScript script.now }
     ensures written { IsWritten (K.held sink.old) (K.held sink.new) (K.faults sink.old) (K.faults sink.new) (solo_text script.now) result }
     ensures count { K.faults sink.old ≤ K.faults sink.new }
 {
-    let Ok(mut plain) = Plain::new(alloc, script.limits) else {
+    let Ok(mut plain) = Plain::new(alloc, script.limits, Shelf::new(alloc)) else {
         return Written::NoMemory;
     };
     let mut waiting = Vec::new(alloc);
@@ -133,7 +110,7 @@ pub fn write_solo<K: Sink>(alloc: Global, script: &Script, sink: &mut K) -> Writ
         return Written::NoMemory;
     };
     match answer_threads(alloc, &mut plain, script.threads.list(), &mut waiting, sink) {
-        Written::Whole => finish(&mut waiting, &plain.accounts(0), sink),
+        Written::Whole => write_accounts(&mut waiting, &plain.accounts(0), sink),
         Written::Failed => Written::Failed,
         Written::NoMemory => Written::NoMemory,
     }

@@ -152,3 +152,85 @@ fn failing_devices(rt: HostRuntime) -> Result<(), Fail> {
     assert_eq!(rt; write.written.len(), 0);
     Ok(())
 }
+
+/// Checks a history text.
+fn check_text(alloc: Global, text: &[u8]) -> Result<Ran, AllocError> {
+    let mut words = Vec::new(alloc);
+    words.push(String::from_str(alloc, "check")?)?;
+    let mut source = MemSource::new(Vec::from_slice(alloc, text)?, 4096, Vec::new(alloc));
+    let mut sink = MemSink::new(alloc, 10_000, 4096, Vec::new(alloc))?;
+    let status = corten_plain(alloc, words.as_slice(), &mut source, &mut sink);
+    Ok(Ran {
+        status,
+        written: Vec::from_slice(alloc, sink.bytes())?,
+    })
+}
+
+#[test]
+fn check_finds_the_line(rt: HostRuntime) -> Result<(), Fail> {
+    let wrong = check_text(
+        rt.alloc(),
+        b"corten 1\nframes 2\ntables 8\nswap 1\n0 map 0 any 1 rw- zero = at 0x8000000000\n0 store 0 0x8000000000 68 = ok\n0 load 0 0x8000000000 1 = bytes 69\nframes 2 free 1 mapped 1\nswap 1 free 1 used 0\ntables 8 linked 4 limbo 0\n",
+    )?;
+    assert_eq!(rt; wrong.status, 6);
+    assert_eq!(rt; wrong.written.as_slice(), b"illegal 7\n".as_slice());
+    let right = check_text(
+        rt.alloc(),
+        b"corten 1\nframes 2\ntables 8\nswap 1\n0 map 0 any 1 rw- zero = at 0x8000000000\n0 store 0 0x8000000000 68 = ok\n0 load 0 0x8000000000 1 = bytes 68\nframes 2 free 1 mapped 1\nswap 1 free 1 used 0\ntables 8 linked 4 limbo 0\n",
+    )?;
+    assert_eq!(rt; right.status, 0);
+    assert_eq!(rt; right.written.as_slice(), b"legal 3\n".as_slice());
+    Ok(())
+}
+
+#[test]
+fn each_entry_shows_its_limbo(rt: HostRuntime) -> Result<(), Fail> {
+    let limbo = check_text(
+        rt.alloc(),
+        b"corten 1\nframes 2\ntables 4\nswap 1\n0 map 0 any 1 rw- zero = notables 1 1 3\n0 map 0 any 1 rw- zero = at 0x8000000000\nframes 2 free 2 mapped 0\nswap 1 free 1 used 0\ntables 4 linked 4 limbo 0\n",
+    )?;
+    assert_eq!(rt; limbo.written.as_slice(), b"legal 2\n".as_slice());
+    let more = check_text(
+        rt.alloc(),
+        b"corten 1\nframes 2\ntables 4\nswap 1\n0 map 0 any 1 rw- zero = at 0x8000000000\nframes 2 free 2 mapped 0\nswap 1 free 1 used 0\ntables 4 linked 4 limbo 1\n",
+    )?;
+    assert_eq!(rt; more.status, 6);
+    assert_eq!(rt; more.written.as_slice(), b"illegal 8\n".as_slice());
+    Ok(())
+}
+
+#[test]
+fn the_text_of_solo_is_legal(rt: HostRuntime) -> Result<(), Fail> {
+    let ran = run(rt.alloc(), "solo", TWO_FRAMES, FIRST_RUN, 4096, &[], &[])?;
+    let found = check_text(rt.alloc(), ran.written.as_slice())?;
+    assert_eq!(rt; found.status, 0);
+    assert_eq!(rt; found.written.as_slice(), b"legal 3\n".as_slice());
+    Ok(())
+}
+
+/// Whether check refuses a text, which has no last line, by the number of the line that would come next.
+fn is_cut_refused(alloc: Global, text: &[u8]) -> Result<bool, AllocError> {
+    let newlines = text.iter().filter(|byte| **byte == b'\n').count();
+    let wanted = format!(in alloc; "bad {}\n", newlines as u64 + 1)?;
+    let found = check_text(alloc, text)?;
+    Ok(found.status == 1 && found.written.as_slice() == wanted.as_bytes())
+}
+
+/// The length of the first front of a text, not all of it, that check doesn't refuse so.
+fn first_cut_taken(alloc: Global, text: &[u8]) -> Result<Option<usize>, AllocError> {
+    for end in 0..text.len() {
+        if !is_cut_refused(alloc, &text[..end])? {
+            return Ok(Some(end));
+        }
+    }
+    Ok(None)
+}
+
+#[test]
+fn cuts_of_a_history(rt: HostRuntime) -> Result<(), Fail> {
+    assert_eq!(rt;
+        first_cut_taken(rt.alloc(), FIRST_RUN_HISTORY.as_bytes())?,
+        None
+    );
+    Ok(())
+}

@@ -1,79 +1,38 @@
 //! The call that the program makes.
-ghost use Rattle.std.specs.Prelude.{◌≡◌, ◌≢◌, ◌≤◌, ◌<◌, ◌⊎◌, ◌↔◌, ◌++◌, [], length, map, codes, IfOk, IfSome, Some};
+ghost use Rattle.std.specs.Prelude.{◌≡◌, ◌≢◌, ◌≤◌, ◌<◌, ◌⊎◌, ◌↔◌, [], length, map, IfSome};
 ghost use Rattle.std.specs.String.{string_bytes};
 ghost use Rattle.corten_base.specs.Outside.{Rises};
-ghost use Rattle.text_words.specs.Spelling.{number};
-ghost use Rattle.text_words.specs.Layout.{ended};
 ghost use Rattle.mm_script.specs.declared.script.Script.{Script};
 ghost use Rattle.mm_script.specs.ScriptText.{IsScriptText};
+ghost use Rattle.history_text.specs.declared.history.History.{History};
+ghost use Rattle.history_text.specs.declared.verdict.Verdict.{Verdict};
+ghost use Rattle.history_text.specs.HistoryText.{IsHistoryText};
+ghost use Rattle.history_text.specs.Checking.{IsVerdict};
 ghost use Rattle.corten_run.specs.declared.command.Command.{Command};
 ghost use Rattle.corten_run.specs.declared.command.Command.TheVariants as command;
 ghost use Rattle.corten_run.specs.declared.ending.Ending.{Ending};
+ghost use Rattle.corten_run.specs.Commands as definitions;
 ghost use Rattle.corten_run.specs.Commands.{Names, usage_line};
 ghost use Rattle.corten_run.specs.Statuses.{status_of};
-ghost use Rattle.corten_run.specs.Endings.{greatest_length, IsSaid, SoloEnds};
+ghost use Rattle.corten_run.specs.Endings.{IsSaid, IsNoText, ending_of, CommandEnds};
 
-use crate::command::{Command, read_command};
+use crate::answers::answer;
+use crate::command::{Command, greatest_length, read_command};
 use crate::ending::Ending;
-use crate::script_run::write_solo;
 use byte_streams::{ReadWhole, read_whole, write_whole};
 use corten_base::{Sink, Source};
-use history_text::Written;
-use mm_script::{ScriptFault, read_script};
-use std::alloc::{AllocError, Global};
-use text_words::push_number;
-
-/// The bytes that a script may have.
-const GREATEST_SCRIPT: usize = 4_194_304;
+use std::alloc::Global;
 
 const USAGE: &[u8] = b"usage: cortenmm solo | check | run | load N K\n";
 
-/// The line that names a line outside the grammar.
-fn bad_line(alloc: Global, line: u64) -> Result<Vec<u8>, AllocError>
-    ensures { IfOk result (λ text. text.items ≡ ended (codes "bad " ++ number line)) }
-{
-    let mut text = Vec::new(alloc);
-    text.extend_from_slice(b"bad ")?;
-    push_number(&mut text, line)?;
-    text.push(b'\n')?;
-    Ok(text)
-}
-
-/// Runs the script whose text the bytes are.
-fn solo_of<K: Sink>(alloc: Global, bytes: &[u8], sink: &mut K) -> Ending
-    requires { length bytes.now ≤ greatest_length }
-    ensures ends { SoloEnds bytes.now (record {
-      left_now = Some [];
-      read_faults = 0;
-      read_faults_now = 0;
-      held = K.held sink.old;
-      held_now = K.held sink.new;
-      write_faults = K.faults sink.old;
-      write_faults_now = K.faults sink.new;
-    }) result }
-    ensures read { result ≢ Ending.ReadFailed }
-    ensures write_fault { result ≡ Ending.WriteFailed → Rises (K.faults sink.old) (K.faults sink.new) }
-{
-    match read_script(alloc, bytes) {
-        Ok(script) => match write_solo(alloc, &script, sink) {
-            Written::Whole => Ending::Done,
-            Written::Failed => Ending::WriteFailed,
-            Written::NoMemory => Ending::NoMemory,
-        },
-        Err(ScriptFault::Bad(line)) => {
-            let Ok(text) = bad_line(alloc, line) else {
-                return Ending::NoMemory;
-            };
-            let _ = write_whole(sink, text.as_slice());
-            Ending::Refused
-        }
-        Err(ScriptFault::NoMemory) => Ending::NoMemory,
-    }
-}
-
-/// Reads a script and runs it.
-fn solo<S: Source, K: Sink>(alloc: Global, source: &mut S, sink: &mut K) -> Ending
-    ensures told { IfSome (S.left source.old) (λ bytes. SoloEnds bytes (record {
+/// Reads a source whole, and answers what was read.
+fn serve<S: Source, K: Sink>(
+    alloc: Global,
+    command: Command,
+    source: &mut S,
+    sink: &mut K,
+) -> Ending
+    ensures told { IfSome (S.left source.old) (λ bytes. CommandEnds command bytes (record {
       left_now = S.left source.new;
       read_faults = S.faults source.old;
       read_faults_now = S.faults source.new;
@@ -85,9 +44,10 @@ fn solo<S: Source, K: Sink>(alloc: Global, source: &mut S, sink: &mut K) -> Endi
     ensures read_fault { result ≡ Ending.ReadFailed → Rises (S.faults source.old) (S.faults source.new) × (sink.new ≡ sink.old) }
     ensures write_fault { result ≡ Ending.WriteFailed → Rises (K.faults sink.old) (K.faults sink.new) }
     ensures words { result ≢ Ending.Usage }
+    ensures illegal { result ≡ Ending.Illegal → command ≡ Command.Check }
 {
-    match read_whole(alloc, source, GREATEST_SCRIPT) {
-        Ok(ReadWhole::All(bytes)) => solo_of(alloc, bytes.as_slice(), sink),
+    match read_whole(alloc, source, greatest_length(command)) {
+        Ok(ReadWhole::All(bytes)) => answer(alloc, command, bytes.as_slice(), sink),
         Ok(ReadWhole::TooLong) => {
             let _ = write_whole(sink, b"long\n");
             Ending::Refused
@@ -117,8 +77,8 @@ pub fn corten_plain<S: Source, K: Sink>(
       write_faults_now = K.faults sink.new;
     }) usage_line }
     // Right words: what was read and what was written, where the source and the sink tell it.
-    ensures told { result ≢ 2 → IfSome (S.left source.old) (λ bytes.
-        (ending : Ending) × (result ≡ status_of ending) × SoloEnds bytes (record {
+    ensures told { (command : Command) → Names (map string_bytes words.now) command → IfSome (S.left source.old) (λ bytes.
+        (ending : Ending) × (result ≡ status_of ending) × CommandEnds command bytes (record {
           left_now = S.left source.new;
           read_faults = S.faults source.old;
           read_faults_now = S.faults source.new;
@@ -130,17 +90,25 @@ pub fn corten_plain<S: Source, K: Sink>(
     // A fault of a device has its count.
     ensures read_fault { result ≡ 3 → Rises (S.faults source.old) (S.faults source.new) × (sink.new ≡ sink.old) }
     ensures write_fault { result ≡ 4 → Rises (K.faults sink.old) (K.faults sink.new) }
-    // A script within its length is answered by its history, and other bytes are refused, unless a device fails or memory is wanted.
+    // A script within its length is answered by its history, unless a device fails or memory is wanted.
     ensures complete { (script : Script) → Names (map string_bytes words.now) command.Solo → ¬ (Rises (S.faults source.old) (S.faults source.new))
         → ¬ (Rises (K.faults sink.old) (K.faults sink.new))
-        → IfSome (S.left source.old) (λ bytes. IsScriptText bytes script → length bytes ≤ greatest_length → (result ≡ 0) ⊎ (result ≡ 5)) }
-    ensures refuses { Names (map string_bytes words.now) command.Solo → ¬ (Rises (S.faults source.old) (S.faults source.new))
-        → IfSome (S.left source.old) (λ bytes. (length bytes ≤ greatest_length → (script : Script) → ¬ (IsScriptText bytes script)) → (result ≡ 1) ⊎ (result ≡ 5)) }
-    ensures status { result ≤ 5 }
+        → IfSome (S.left source.old) (λ bytes. IsScriptText bytes script → length bytes ≤ definitions.greatest_length command.Solo → (result ≡ 0) ⊎ (result ≡ 5)) }
+    // A history within its length is answered by what is found of it.
+    ensures judges { (history : History) (verdict : Verdict) → Names (map string_bytes words.now) command.Check → ¬ (Rises (S.faults source.old) (S.faults source.new))
+        → ¬ (Rises (K.faults sink.old) (K.faults sink.new))
+        → IfSome (S.left source.old) (λ bytes. IsHistoryText bytes history → length bytes ≤ definitions.greatest_length command.Check → IsVerdict history verdict
+        → (result ≡ status_of (ending_of verdict)) ⊎ (result ≡ 5)) }
+    // Other bytes are refused.
+    ensures refuses { (command : Command) → Names (map string_bytes words.now) command → ¬ (Rises (S.faults source.old) (S.faults source.new))
+        → IfSome (S.left source.old) (λ bytes. (length bytes ≤ definitions.greatest_length command → IsNoText command bytes) → (result ≡ 1) ⊎ (result ≡ 5)) }
+    // What is found not to be legal is a history.
+    ensures illegal { result ≡ 6 → Names (map string_bytes words.now) command.Check }
+    ensures status { result ≤ 6 }
 {
-    let Some(Command::Solo) = read_command(words) else {
+    let Some(command) = read_command(words) else {
         let _ = write_whole(sink, USAGE);
         return Ending::Usage.status();
     };
-    solo(alloc, source, sink).status()
+    serve(alloc, command, source, sink).status()
 }

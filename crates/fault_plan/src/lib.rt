@@ -4,5 +4,7 @@
 mod laws;
 mod rule;
 
-pub use laws::{decisions_cover_all_cases, decisions_exclude_each_other};
+pub use laws::{
+    decisions_are_those_of_the_page_map, decisions_cover_all_cases, decisions_exclude_each_other,
+};
 pub use rule::{Decision, decide};

@@ -1,5 +1,8 @@
-pub mod Replies
 pub mod Accounting
-pub mod Writing
-pub mod Outcomes
+pub mod Checking
 pub mod HistoryText
+pub mod Outcomes
+pub mod Replies
+pub mod ReplyNames
+pub mod Writing
+pub mod Wrong

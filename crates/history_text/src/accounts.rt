@@ -1,29 +1,31 @@
-//! The lines of a history text before and after its entries.
+//! The lines of a history text before and after its entries, printed.
 ghost use Rattle.std.specs.Prelude.{◌≡◌, ◌++◌, OnOk};
-ghost use Rattle.text_words.specs.Spelling.{number};
-ghost use Rattle.text_words.specs.Layout.{text, ended};
-ghost use Rattle.history_text.specs.Accounting.{limit_lines, header_lines, frames_line, swap_line, tables_line, account_lines};
+ghost use Rattle.text_words.specs.Layout.{text, ended, joined};
+ghost use Rattle.mm_script.specs.ScriptText.{limit_words, limit_lines};
+ghost use Rattle.history_text.specs.Accounting.{header_lines, account_lines};
+ghost use Rattle.history_text.specs.Accounting as definitions;
 
+use crate::counts::{Counts, push_counts};
 use corten_base::{Accounts, Limits};
 use std::alloc::AllocError;
-use text_words::push_number;
+use text_words::{Word, push_words};
 
 /// Adds a line of one word and a number.
-fn push_limit(out: &mut Vec<u8>, word: &[u8], limit: u32) -> Result<(), AllocError>
-    ensures { OnOk result (out.new.items ≡ out.old.items ++ ended (word.now ++ number limit)) }
+fn push_limit(out: &mut Vec<u8>, name: &[u8], limit: u32) -> Result<(), AllocError>
+    ensures { OnOk result (out.new.items ≡ out.old.items ++ ended (joined (limit_words name.now limit))) }
 {
-    out.extend_from_slice(word)?;
-    push_number(out, u64::from(limit))?;
-    out.extend_from_slice(b"\n")
+    push_words(out, &[Word::Plain(name), Word::Number(u64::from(limit))])?;
+    out.push(b'\n')?;
+    Ok(())
 }
 
 /// Adds the lines of the limits.
-pub fn push_limits(out: &mut Vec<u8>, limits: Limits) -> Result<(), AllocError>
+fn push_limits(out: &mut Vec<u8>, limits: Limits) -> Result<(), AllocError>
     ensures { OnOk result (out.new.items ≡ out.old.items ++ text (limit_lines limits)) }
 {
-    push_limit(out, b"frames ", limits.frames)?;
-    push_limit(out, b"tables ", limits.tables)?;
-    push_limit(out, b"swap ", limits.swap)
+    push_limit(out, b"frames", limits.frames)?;
+    push_limit(out, b"tables", limits.tables)?;
+    push_limit(out, b"swap", limits.swap)
 }
 
 /// Adds the lines before the entries. After want of memory some of them may stand there.
@@ -34,47 +36,44 @@ pub fn push_header(out: &mut Vec<u8>, limits: Limits) -> Result<(), AllocError>
     push_limits(out, limits)
 }
 
-/// Adds a word and a number.
-fn push_part(out: &mut Vec<u8>, word: &[u8], count: u32) -> Result<(), AllocError>
-    ensures { OnOk result (out.new.items ≡ out.old.items ++ (word.now ++ number count)) }
+/// The three numbers of the line of frames.
+pub(crate) fn frames_counts(accounts: &Accounts) -> Counts
+    ensures { result ≡ definitions.frames_counts accounts.now }
 {
-    out.extend_from_slice(word)?;
-    push_number(out, u64::from(count))
+    Counts {
+        whole: accounts.frames,
+        second: accounts.frames_free,
+        third: accounts.frames_mapped,
+    }
 }
 
-fn push_frames(out: &mut Vec<u8>, accounts: &Accounts) -> Result<(), AllocError>
-    ensures { OnOk result (out.new.items ≡ out.old.items ++ ended (frames_line accounts.now)) }
+/// The three numbers of the line of swap slots.
+pub(crate) fn swap_counts(accounts: &Accounts) -> Counts
+    ensures { result ≡ definitions.swap_counts accounts.now }
 {
-    push_part(out, b"frames ", accounts.frames)?;
-    push_part(out, b" free ", accounts.frames_free)?;
-    push_part(out, b" mapped ", accounts.frames_mapped)?;
-    out.extend_from_slice(b"\n")
+    Counts {
+        whole: accounts.swap,
+        second: accounts.swap_free,
+        third: accounts.swap_used,
+    }
 }
 
-fn push_swap(out: &mut Vec<u8>, accounts: &Accounts) -> Result<(), AllocError>
-    ensures { OnOk result (out.new.items ≡ out.old.items ++ ended (swap_line accounts.now)) }
+/// The three numbers of the line of page tables.
+pub(crate) fn tables_counts(accounts: &Accounts) -> Counts
+    ensures { result ≡ definitions.tables_counts accounts.now }
 {
-    push_part(out, b"swap ", accounts.swap)?;
-    push_part(out, b" free ", accounts.swap_free)?;
-    push_part(out, b" used ", accounts.swap_used)?;
-    out.extend_from_slice(b"\n")
-}
-
-fn push_tables(out: &mut Vec<u8>, accounts: &Accounts) -> Result<(), AllocError>
-    ensures { OnOk result (out.new.items ≡ out.old.items ++ ended (tables_line accounts.now)) }
-{
-    push_part(out, b"tables ", accounts.tables)?;
-    push_part(out, b" linked ", accounts.linked)?;
-    push_part(out, b" limbo ", accounts.limbo)?;
-    out.extend_from_slice(b"\n")
+    Counts {
+        whole: accounts.tables,
+        second: accounts.linked,
+        third: accounts.limbo,
+    }
 }
 
 /// Adds the lines after the entries. After want of memory some of them may stand there.
-pub fn push_accounts(out: &mut Vec<u8>, accounts: &Accounts) -> Result<(), AllocError>
+pub(crate) fn push_accounts(out: &mut Vec<u8>, accounts: &Accounts) -> Result<(), AllocError>
     ensures { OnOk result (out.new.items ≡ out.old.items ++ text (account_lines accounts.now)) }
 {
-    push_frames(out, accounts)?;
-    push_swap(out, accounts)?;
-    push_tables(out, accounts)?;
-    Ok(())
+    push_counts(out, b"frames", b"free", b"mapped", frames_counts(accounts))?;
+    push_counts(out, b"swap", b"free", b"used", swap_counts(accounts))?;
+    push_counts(out, b"tables", b"linked", b"limbo", tables_counts(accounts))
 }

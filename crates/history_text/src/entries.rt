@@ -1,15 +1,15 @@
 //! Answered calls as lines.
-ghost use Rattle.std.specs.Prelude.{◌≡◌, ◌++◌, IfOk, OnOk};
+ghost use Rattle.std.specs.Prelude.{◌≡◌, ◌≢◌, ◌++◌, ℕ, List, IfOk, IfSome, IfNone, OnOk};
 ghost use Rattle.corten_base.specs.declared.calls.Entry.{Entry};
 ghost use Rattle.text_words.specs.Layout.{ended};
 ghost use Rattle.mm_script.specs.CallLine.{IsCall};
-ghost use Rattle.history_text.specs.HistoryText.{entry_line, answer_line};
+ghost use Rattle.history_text.specs.HistoryText.{answer_line, entry_words, entry_line, IsEntry};
 
-use crate::replies::push_reply;
+use crate::replies::{next_reply, push_reply};
 use corten_base::{Call, Entry, Reply, TextBytes};
-use mm_script::push_call;
+use mm_script::{next_call, next_name, next_within, push_call};
 use std::alloc::{AllocError, Global};
-use text_words::push_number;
+use text_words::{Words, push_number};
 
 /// Adds an answered call, without a newline.
 fn push_answer(out: &mut Vec<u8>, thread: u8, call: &Call, reply: &Reply) -> Result<(), AllocError>
@@ -17,15 +17,14 @@ fn push_answer(out: &mut Vec<u8>, thread: u8, call: &Call, reply: &Reply) -> Res
     ensures { OnOk result (out.new.items ≡ out.old.items ++ answer_line thread call.now reply.now) }
 {
     push_number(out, u64::from(thread))?;
-    out.extend_from_slice(b" ")?;
+    out.push(b' ')?;
     push_call(out, call)?;
     out.extend_from_slice(b" = ")?;
-    push_reply(out, reply)?;
-    Ok(())
+    push_reply(out, reply)
 }
 
 /// Adds an answered call's line. After want of memory some of it may stand there.
-pub fn push_entry(
+pub(crate) fn push_entry(
     out: &mut Vec<u8>,
     thread: u8,
     call: &Call,
@@ -47,4 +46,39 @@ pub fn print_entry(alloc: Global, entry: &Entry) -> Result<TextBytes, AllocError
     let mut out = Vec::new(alloc);
     push_answer(&mut out, entry.thread, &entry.call, &entry.reply)?;
     Ok(TextBytes::of(out))
+}
+
+/// Takes the words of an answered call from the front of those that are left.
+fn next_entry(alloc: Global, words: &mut Words<'_>) -> Result<Option<Entry>, AllocError>
+    ensures found { IfOk result (λ read. IfSome read (λ entry. IsEntry entry × (words.old ≡ entry_words entry ++ words.new))) }
+    ensures none { IfOk result (λ read. IfNone read ((entry : Entry) (rest : List (List ℕ)) →
+        IsEntry entry → words.old ≢ entry_words entry ++ rest)) }
+{
+    let Some(thread) = next_within(words, 0, 7) else {
+        return Ok(None);
+    };
+    let Some(call) = next_call(alloc, words)? else {
+        return Ok(None);
+    };
+    let Some(()) = next_name(words, b"=") else {
+        return Ok(None);
+    };
+    let Some(reply) = next_reply(alloc, words)? else {
+        return Ok(None);
+    };
+    Ok(Some(Entry {
+        thread: thread as u8,
+        call,
+        reply,
+    }))
+}
+
+/// The answered call whose line this is.
+pub fn read_entry(alloc: Global, line: &[u8]) -> Result<Option<Entry>, AllocError>
+    ensures found { IfOk result (λ read. IfSome read (λ entry. IsEntry entry × (line.now ≡ entry_line entry))) }
+    ensures none { IfOk result (λ read. IfNone read ((entry : Entry) → IsEntry entry → line.now ≢ entry_line entry)) }
+{
+    let mut words = Words::of(line);
+    let entry = next_entry(alloc, &mut words)?;
+    if words.is_done() { Ok(entry) } else { Ok(None) }
 }

@@ -15,15 +15,15 @@ use Rattle.page_map.specs.Effect.{state_after, answer}
 use Rattle.page_map.specs.Step.{step, refusal}
 use Rattle.page_map.proofs.Steps.{accepted, refused}
 use Rattle.page_map.proofs.StepKeeps.{step_keeps}
-use Rattle.mm_model.specs.Owners.{unused_of}
+use Rattle.plain_spaces.specs.Owners.{unused_of}
 use Rattle.mm_model.specs.Plain.{IsSound}
-use Rattle.mm_model.specs.Reach.{wanting, refused_in, IsWhole, IsCounted, Makes, Keeps}
+use Rattle.plain_spaces.specs.Reach.{wanting, refused_in, IsWhole, IsCounted, Makes, Keeps}
 use Rattle.mm_model.specs.Accesses.{Refuses, Accepts, answered}
-use Rattle.mm_model.specs.Wants.{refusal_of}
-use Rattle.mm_model.specs.declared.access.Stop.{Stop}
-use Rattle.mm_model.specs.declared.access.Stop.TheVariants.{Refused, NoMemory}
+use Rattle.plain_spaces.specs.Wants.{refusal_of}
+use Rattle.plain_spaces.specs.declared.access.Stop.{Stop}
+use Rattle.plain_spaces.specs.declared.access.Stop.TheVariants.{Refused, NoMemory}
 use Rattle.mm_model.proofs.Full.{still_full, cells_stay, change_stays}
-use Rattle.mm_model.proofs.Moves.{put_back}
+use Rattle.plain_spaces.proofs.Moves.{put_back}
 use Rattle.mm_model.proofs.Carried.{is_counted_in, counts_follow, cell_here}
 use Rattle.mm_model.proofs.AccessSteps.{IsAccess, refused_outside, refused_absent, decided_inside, after_is}
 
@@ -34,10 +34,9 @@ module _ (st : State) (c : Call) (space : ℕ) (a : Access) (is : IsAccess st c 
   pub refuses_absent : outside_user_pages 4 a ≡ None → get st.spaces space ≡ None → Refuses st c reply.NoSpace
   refuses_absent e absent = λ thread limbo legal. refused_absent st c space a is thread limbo legal e absent
 
-module _ (st : State) (no_files : st.files ≡ []) (frames slots fronts : List ℕ) (sound : IsSound st frames slots fronts) (space : ℕ) (cells : AddressSpace) (here : get st.spaces space ≡ Some cells) where
-  pub whole_here : IsWhole [] cells
-  whole_here = subst (λ files. IsWhole files cells) no_files
-      (λ q c h. sound.state.bytes space q c (cell_here frame_of st st.limits.frames frames sound.frame_counts sound.state.frames space cells here q c h))
+module _ (st : State) (frames slots fronts : List ℕ) (sound : IsSound st frames slots fronts) (space : ℕ) (cells : AddressSpace) (here : get st.spaces space ≡ Some cells) where
+  pub whole_here : IsWhole st.files cells
+  whole_here = λ q c h. sound.state.bytes space q c (cell_here frame_of st st.limits.frames frames sound.frame_counts sound.state.frames space cells here q c h)
 
   pub frames_here : IsCounted frame_of frames cells
   frames_here = is_counted_in frame_of st st.limits.frames frames sound.frame_counts sound.state.frames space cells here
@@ -46,12 +45,10 @@ module _ (st : State) (no_files : st.files ≡ []) (frames slots fronts : List �
   slots_here = is_counted_in slot_of st st.limits.swap slots sound.slot_counts sound.state.slots space cells here
 
   module _ (c : Call) (a : Access) (is : IsAccess st c space a) (user : outside_user_pages 4 a ≡ None) where
-    decides : (thread limbo : ℕ) → linked st + limbo ≤ st.limits.tables → refusal st thread c limbo ≡ refused_in [] cells frames a
-    decides thread limbo legal =
-        decided_inside st c space a is thread limbo legal frames sound.frame_counts sound.state.frames cells here user
-        ∙ ap (λ files. refused_in files cells frames a) no_files
+    decides : (thread limbo : ℕ) → linked st + limbo ≤ st.limits.tables → refusal st thread c limbo ≡ refused_in st.files cells frames a
+    decides thread limbo legal = decided_inside st c space a is thread limbo legal frames sound.frame_counts sound.state.frames cells here user
 
-    pub refuses_inside : (r : Reply) → refused_in [] cells frames a ≡ Some r → Refuses st c r
+    pub refuses_inside : (r : Reply) → refused_in st.files cells frames a ≡ Some r → Refuses st c r
     refuses_inside r e = λ thread limbo legal. decides thread limbo legal ∙ e
 
     module _ (cells' : AddressSpace) (frames' slots' : List ℕ) where
@@ -61,10 +58,10 @@ module _ (st : State) (no_files : st.files ≡ []) (frames slots fronts : List �
       no_limbo : linked st + 0 ≤ st.limits.tables
       no_limbo = omega (arith, sound.state.tables)
 
-      module _ (m : Makes a cells cells' frames frames' slots slots') where
+      module _ (m : Makes st.files a cells cells' frames frames' slots slots') where
         after : (thread : ℕ) → next ≡ state_after st thread c
         after thread =
-            ap (λ new. record st { spaces = fin.insert st.spaces space new }) (m.cells_are ∙ ap (λ files. after_access files (grant (wanting (slice_index frames) cells a) (unused_of frames)) a cells) (sym no_files))
+            ap (λ new. record st { spaces = fin.insert st.spaces space new }) m.cells_are
             ∙ after_is st c space a is thread 0 no_limbo frames sound.frame_counts sound.state.frames cells here
 
         none : (thread limbo : ℕ) → linked st + limbo ≤ st.limits.tables → refusal st thread c limbo ≡ None

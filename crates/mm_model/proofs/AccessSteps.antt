@@ -27,10 +27,10 @@ use Rattle.page_map.specs.Step.{refusal, first_refusal, refused_unless, argument
 use Rattle.page_map.proofs.Keys.{keys_in_more, chosen}
 use Rattle.page_map.proofs.Places.{place_total, place_exact}
 use Rattle.page_map.proofs.Evaluate.{union_empty, alike, difference_empty}
-use Rattle.mm_model.specs.Owners.{unused_of}
+use Rattle.plain_spaces.specs.Owners.{unused_of}
 use Rattle.mm_model.specs.Plain.{owner_counts}
-use Rattle.mm_model.specs.Reach.{reaching, storing, wants, wanting, lack, refused_in}
-use Rattle.mm_model.proofs.Plans.{no_keys}
+use Rattle.plain_spaces.specs.Reach.{reaching, storing, wants, wanting, lack, refused_in}
+use Rattle.plain_spaces.proofs.Plans.{no_keys}
 use Rattle.mm_model.proofs.Counts.{unused_counts}
 use Rattle.mm_model.proofs.Carried.{counted_at}
 
@@ -75,12 +75,26 @@ store_access st space at bytes = record {
   spaces_are = λ _. refl;
 }
 
+pub fault_access : (st : State) (space at : ℕ) (write : Bool) → IsAccess st (call.Fault space at write) space (reaching at 1 write)
+fault_access st space at write = record {
+  arguments_are = refl;
+  space_is = refl;
+  no_new = refl;
+  no_mapping = λ _. refl;
+  pages_are = refl;
+  no_wanted = λ _. refl;
+  frames_are = refl;
+  no_slots = refl;
+  none_left = λ _. refl;
+  spaces_are = λ _. refl;
+}
+
 or_none : {A : Type 0} (o : Option A) → option_or o None ≡ o
 or_none None = refl
 or_none (Some x) = refl
 
 -- a set that nothing is taken out of, or put into
-same_tables : (given_up : Place → Bool) → ((p : Place) → given_up p ≡ false) → (wanted : List Place) → wanted ≡ [] → (tables : Tables) → changed_tables given_up wanted tables ≡ tables
+pub same_tables : (given_up : Place → Bool) → ((p : Place) → given_up p ≡ false) → (wanted : List Place) → wanted ≡ [] → (tables : Tables) → changed_tables given_up wanted tables ≡ tables
 same_tables given_up none wanted no_more tables =
     (λ i. set.union (set.retain tables (λ p. not (none p i))) (set.from_list (no_more i)))
     ∙ union_empty place_total place_exact (set.retain tables (λ p. true))
@@ -90,7 +104,7 @@ same_tables given_up none wanted no_more tables =
     and_true true = refl
     and_true false = refl
 
-no_need : (wanted : List Place) → wanted ≡ [] → (tables : Tables) → need wanted tables ≡ 0
+pub no_need : (wanted : List Place) → wanted ≡ [] → (tables : Tables) → need wanted tables ≡ 0
 no_need wanted none tables = ap (λ w. set.len (set.difference (set.from_list w) tables)) none ∙ ap set.len (difference_empty place_total place_exact tables) ∙ len-empty place_cmp
 
 module _ {X : Type 0} (p q : X → Bool) (m : FinMap nat_cmp X) (low : ℕ) (same : (k : ℕ) (x : X) → get m k ≡ Some x → p x ≡ q x) where
@@ -184,3 +198,7 @@ load_answer st thread space at len cells here = ap (λ o. reply.Bytes (loaded st
 pub store_answer : (st : State) (thread space at : ℕ) (bytes : List ℕ) → reply.Ok ≡ answer st thread (call.Store space at bytes)
 unfolding answer
 store_answer st thread space at bytes = refl
+
+pub fault_answer : (st : State) (thread space at : ℕ) (write : Bool) → reply.Ok ≡ answer st thread (call.Fault space at write)
+unfolding answer
+fault_answer st thread space at write = refl

@@ -18,7 +18,7 @@ use Rattle.page_map.specs.State.{State, AddressSpace, cell_at, carries, owners}
 use Rattle.page_map.proofs.Weights.{weight_insert, first, second, less}
 use Rattle.page_map.proofs.Owners.{one_weight}
 use Rattle.mm_model.specs.Plain.{owner_counts}
-use Rattle.mm_model.specs.Reach.{carried, IsCounted, Follows}
+use Rattle.plain_spaces.specs.Reach.{carried, IsCounted, Follows}
 
 module _ {X : Type 0} (w : X → ℕ) where
   -- a key below all others is not among them

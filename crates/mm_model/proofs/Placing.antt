@@ -4,7 +4,7 @@ use Rattle.std.specs.Prelude.{Option, is_some, nat_lt}
 use Rattle.std.specs.Option.{unwrap_or}
 use Rattle.std.specs.FinMap as map
 use Rattle.std.specs.FinSet as set
-use Rattle.std.proofs.lemmas.Bool.{lt-ltb, le-ltb}
+use Rattle.std.proofs.lemmas.Bool.{le-ltb}
 use Rattle.corten_base.specs.declared.calls.Reply.{Reply}
 use Rattle.corten_base.specs.declared.calls.Reply.TheVariants as reply
 use Rattle.table_place.specs.Place.{above, pages_of}
@@ -16,7 +16,7 @@ use Rattle.page_map.specs.Effect.{wanted_tables, is_given_up, state_after, answe
 use Rattle.page_map.specs.Step.{refusal, refused_unless, no_tables}
 use Rattle.page_map.proofs.Growth.{all_stay}
 use Rattle.page_map.proofs.Steps.{by_arguments, by_space, by_none}
-use Rattle.mm_model.specs.Placing.{call_of, filled, tables_with}
+use Rattle.mm_model.specs.Placing.{call_of, filled, tables_with, tables_lack}
 use Rattle.mm_model.specs.declared.mapping.Mapping.{Mapping}
 use Rattle.mm_model.proofs.Refusals.{by_place, by_tables}
 
@@ -40,6 +40,9 @@ module _ (st : State) (thread : ℕ) (m : Mapping) (limbo : ℕ) where
         ap (λ (o : Option ℕ). above 4 m.space (4096 * unwrap_or o 0 / 4096) (pages_of m.len) ++ []) at_gap
         ∙ append-nil (above 4 m.space (4096 * first / 4096) (pages_of m.len))
         ∙ ap (λ at. above 4 m.space at (pages_of m.len)) (first_page first)
+
+    pub tables_are : no_tables st thread (call_of m) limbo ≡ tables_lack st (above 4 m.space first (pages_of m.len)) limbo
+    tables_are = ap (λ ps. let n = need ps st.tables in cond (nat_lt st.limits.tables (linked st + n + limbo)) (Some (reply.NoTables (linked st) limbo n)) None) wanted_is
 
     pub answer_is : answer st thread (call_of m) ≡ reply.At (4096 * first)
     unfolding answer
@@ -95,29 +98,20 @@ module _ (st : State) (thread : ℕ) (m : Mapping) (limbo : ℕ) where
           (unless_true right reply.Einval is_right) (unless_true (is_present st m.space) reply.NoSpace present) refl (ap (λ o. refused_unless (is_some o) reply.NoRoom) h)
 
       module _ (first : ℕ) (at_gap : here ≡ Some first) where
-        abbrev missing : ℕ
-        missing = need (above 4 m.space first (pages_of m.len)) st.tables
-
-        abbrev too_many : Bool
-        too_many = nat_lt st.limits.tables (linked st + missing + limbo)
-
-        tables_are : no_tables st thread (call_of m) limbo ≡ cond too_many (Some (reply.NoTables (linked st) limbo missing)) None
-        tables_are = ap (λ ps. let n = need ps st.tables in cond (nat_lt st.limits.tables (linked st + n + limbo)) (Some (reply.NoTables (linked st) limbo n)) None) (wanted_is first at_gap)
-
-        pub no_tables_there : st.limits.tables < linked st + missing + limbo → refusal st thread (call_of m) limbo ≡ Some (reply.NoTables (linked st) limbo missing)
-        no_tables_there h =
-            by_tables st thread (call_of m) limbo (reply.NoTables (linked st) limbo missing)
+        pub no_tables_there : (r : Reply) → tables_lack st (above 4 m.space first (pages_of m.len)) limbo ≡ Some r → refusal st thread (call_of m) limbo ≡ Some r
+        no_tables_there r h =
+            by_tables st thread (call_of m) limbo r
             (unless_true right reply.Einval is_right) (unless_true (is_present st m.space) reply.NoSpace present) refl (ap (λ o. refused_unless (is_some o) reply.NoRoom) at_gap) refl
-            (tables_are ∙ ap (λ b. cond b (Some (reply.NoTables (linked st) limbo missing)) None) (lt-ltb _ _ h))
+            (tables_are first at_gap ∙ h)
 
-        pub passes : linked st + missing + limbo ≤ st.limits.tables → refusal st thread (call_of m) limbo ≡ None
+        pub passes : tables_lack st (above 4 m.space first (pages_of m.len)) limbo ≡ None → refusal st thread (call_of m) limbo ≡ None
         passes h = by_none st thread (call_of m) limbo (record {
           arguments = unless_true right reply.Einval is_right;
           space = unless_true (is_present st m.space) reply.NoSpace present;
           spaces = refl;
           place = ap (λ o. refused_unless (is_some o) reply.NoRoom) at_gap;
           pages = refl;
-          tables = tables_are ∙ ap (λ b. cond b (Some (reply.NoTables (linked st) limbo missing)) None) (le-ltb _ _ h);
+          tables = tables_are first at_gap ∙ h;
           frames = none_wanted (length (unused_frames st)) (reply.NoFrames (length (unused_frames st)) 0);
           swap = none_wanted (length (unused_slots st)) (reply.NoSwap (length (unused_slots st)) 0);
         })

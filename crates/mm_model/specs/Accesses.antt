@@ -8,8 +8,8 @@ use Rattle.corten_base.specs.declared.calls.Reply.{Reply}
 use Rattle.page_map.specs.State.{State, linked}
 use Rattle.page_map.specs.Effect.{answer, state_after}
 use Rattle.page_map.specs.Step.{refusal}
-use Rattle.mm_model.specs.declared.access.Stop.{Stop}
-use Rattle.mm_model.specs.declared.access.Stop.TheVariants.{Refused, NoMemory}
+use Rattle.plain_spaces.specs.declared.access.Stop.{Stop}
+use Rattle.plain_spaces.specs.declared.access.Stop.TheVariants.{Refused, NoMemory}
 
 -- whichever thread makes it, and however many tables are in limbo
 abbrev pub Refuses : State → Call → Reply → Type 0

@@ -1,11 +1,4 @@
-pub mod Owners
 pub mod Plain
-pub mod Lending
-pub mod Reach
-pub mod Wants
-pub mod Backing
 pub mod Accesses
-pub mod Levels
 pub mod Placing
 pub mod Served
-pub mod Fronts

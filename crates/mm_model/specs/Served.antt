@@ -3,11 +3,13 @@
 use Rattle.std.specs.Prelude.{◌≤◌, length}
 use Rattle.corten_base.specs.declared.calls.Call.{Call}
 use Rattle.corten_base.specs.declared.calls.Call.TheVariants as call
-use Rattle.corten_base.specs.declared.calls.MapPlace.TheVariants as place
 
--- `map any`, `load` and `store`, where an access is of 1 to 4,096 bytes
+-- the calls that map, unmap, protect and touch pages, where an access is of 1 to 4,096 bytes
 abbrev pub IsServed : Call → Type 0
-IsServed (call.Map space place.Any len perm what) = Unit {0}
+IsServed (call.Map space where_to len perm what) = Unit {0}
+IsServed (call.Unmap space at len) = Unit {0}
+IsServed (call.Protect space at len perm) = Unit {0}
 IsServed (call.Load space at len) = (1 ≤ len) × (len ≤ 4096)
 IsServed (call.Store space at bytes) = (1 ≤ length bytes) × (length bytes ≤ 4096)
+IsServed (call.Fault space at write) = Unit {0}
 IsServed _ = ⊥

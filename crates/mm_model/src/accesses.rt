@@ -1,14 +1,14 @@
-//! Loads and stores of the plain machine.
+//! Loads, stores and page faults of the plain machine.
 ghost use Rattle.std.specs.Prelude.{◌≡◌, ℕ, ◌+◌, ◌<◌, ◌≤◌, length, IfOk, IfErr, IfSome, OnErr};
 ghost use Rattle.corten_base.specs.declared.calls.Call.TheVariants as call;
 ghost use Rattle.page_map.specs.State.{linked};
 ghost use Rattle.page_map.specs.Step.{step};
-ghost use Rattle.mm_model.specs.Wants.{refusal_of};
+ghost use Rattle.plain_spaces.specs.Wants.{refusal_of};
 ghost use Rattle.mm_model.specs.Accesses.{Refuses, Accepts, answered};
 
-use crate::access::{Access, Stop};
 use crate::plain::Plain;
 use corten_base::{ByteList, Reply, SpaceId};
+use plain_spaces::{Access, Stop};
 use std::alloc::{AllocError, Global};
 
 /// The reply to a call that was made or refused.
@@ -34,7 +34,13 @@ impl Plain {
         let Some(cells) = self.spaces.get_mut(space.number()) else {
             return Err(Stop::Refused(Reply::NoSpace));
         };
-        cells.load(alloc, &mut self.frames, &mut self.slots, access)
+        cells.load(
+            alloc,
+            &self.shelf,
+            &mut self.frames,
+            &mut self.slots,
+            access,
+        )
     }
 
     /// The bytes from an address on. Their pages get the frames that they want.
@@ -72,7 +78,14 @@ impl Plain {
         let Some(cells) = self.spaces.get_mut(space.number()) else {
             return Err(Stop::Refused(Reply::NoSpace));
         };
-        cells.store(alloc, &mut self.frames, &mut self.slots, access, stored)
+        cells.store(
+            alloc,
+            &self.shelf,
+            &mut self.frames,
+            &mut self.slots,
+            access,
+            stored,
+        )
     }
 
     /// Stores bytes from an address on. Their pages get the frames that they want.
@@ -89,5 +102,45 @@ impl Plain {
         ensures err { OnErr result (self.new ≡ self.old) }
     {
         answer(self.try_store(alloc, space, at, bytes))
+    }
+
+    /// What a page fault at an address does, or why it is refused.
+    fn try_fault(
+        &mut self,
+        alloc: Global,
+        space: SpaceId,
+        at: u64,
+        write: bool,
+    ) -> Result<Reply, Stop>
+        ensures ok { IfOk result (Accepts self.old self.new (call.Fault space at write)) }
+        ensures refused { IfErr result (λ stop. IfSome (refusal_of stop) (Refuses self.old (call.Fault space at write))) }
+        ensures kept { OnErr result (self.new ≡ self.old) }
+    {
+        let access = Access::new(at, 1, write)?;
+        let Some(cells) = self.spaces.get_mut(space.number()) else {
+            return Err(Stop::Refused(Reply::NoSpace));
+        };
+        cells.fault(
+            alloc,
+            &self.shelf,
+            &mut self.frames,
+            &mut self.slots,
+            access,
+        )
+    }
+
+    /// A page fault at an address: its page gets the frame that it wants, and no byte changes.
+    pub(crate) fn fault(
+        &mut self,
+        alloc: Global,
+        space: SpaceId,
+        at: u64,
+        write: bool,
+    ) -> Result<Reply, AllocError>
+        ensures ok { IfOk result (λ reply. (thread limbo : ℕ) → linked self.old + limbo ≤ self.old.limits.tables
+            → (reply, self.new) ≡ step self.old thread (call.Fault space at write) limbo) }
+        ensures err { OnErr result (self.new ≡ self.old) }
+    {
+        answer(self.try_fault(alloc, space, at, write))
     }
 }

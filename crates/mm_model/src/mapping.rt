@@ -1,20 +1,20 @@
-//! Mapping pages at the least gap of a thread's arena.
-ghost use Rattle.std.specs.Prelude.{◌≡◌, ◌+◌, ◌<◌, ◌≤◌, ◌^◌, [], Some, None, true, IfOk, IfErr, OnOk, OnErr, IsSome};
-ghost use Rattle.std.specs.Option.{unwrap_or};
+//! Mapping pages, at the least gap of a thread's arena or at an address.
+ghost use Rattle.std.specs.Prelude.{◌≡◌, ℕ, ◌+◌, ◌<◌, ◌≤◌, ◌^◌, cond, is_some, Some, None, IfOk, IfErr, OnOk, OnErr};
 ghost use Rattle.std.specs.FinMap as map;
-ghost use Rattle.std.specs.FinSet as set;
-ghost use Rattle.table_place.specs.Place.{pages_of};
-ghost use Rattle.page_map.specs.Mapping.{is_mappable, is_free};
+ghost use Rattle.table_place.specs.Place.{above, pages_of};
+ghost use Rattle.page_map.specs.Cell.{frame_of, slot_of};
+ghost use Rattle.page_map.specs.Change.{least};
+ghost use Rattle.page_map.specs.Mapping.{is_backing, is_mappable};
 ghost use Rattle.page_map.specs.State.{linked};
 ghost use Rattle.page_map.specs.Step.{refusal, step};
-ghost use Rattle.mm_model.specs.Backing.{index_of};
-ghost use Rattle.mm_model.specs.Placing.{call_of, IsPlaced, filled, tables_with};
+ghost use Rattle.plain_spaces.specs.Backing.{index_of};
+ghost use Rattle.plain_spaces.specs.Reach.{IsCounted, Follows, Keeps};
+ghost use Rattle.mm_model.specs.Placing.{call_of, call_at, IsPlaced, IsFixed, MayPut, after_put, filled, tables_with, tables_lack};
 
 use crate::plain::Plain;
-use crate::space::AddressSpace;
-use crate::spaces::Spaces;
-use crate::tables::Tables;
-use corten_base::{Backing, Perm, Reply, SpaceId};
+use corten_base::{Backing, Perm, Range, Reply, SpaceId};
+use file_shelf::Shelf;
+use plain_spaces::{AddressSpace, NewPages, Owners, Tables};
 use std::alloc::{AllocError, Global};
 
 /// A mapping without a place of its own.
@@ -33,6 +33,9 @@ pub struct Mapping {
 /// The greatest length of a mapping, half of the address space.
 const GREATEST_LEN: u64 = 1 << 47;
 
+/// The greatest index of a page in a file.
+const GREATEST_INDEX: u64 = 1 << 40;
+
 /// How many pages a length covers.
 fn pages(len: u64) -> u64
     ensures { result ≡ pages_of len }
@@ -40,66 +43,73 @@ fn pages(len: u64) -> u64
     len / 4096 + if len % 4096 == 0 { 0 } else { 1 }
 }
 
+/// Whether there is a file of its number, and its index is in bounds.
+fn is_backing(shelf: &Shelf, backing: Backing) -> bool
+    ensures { result ≡ is_backing shelf.now backing }
+{
+    match backing {
+        Backing::Zero => true,
+        Backing::File { file, index } => file < shelf.count() && index <= GREATEST_INDEX,
+    }
+}
+
+/// The least page of a range that has a cell, where the range has to be empty.
+fn mapped_page(cells: &AddressSpace, fresh: bool, first: u64, count: u64) -> Option<u64>
+    requires { first + count < 2 ^ 64 }
+    ensures { result ≡ cond fresh (least first count (λ page. is_some (map.get cells.now page))) None }
+{
+    if fresh {
+        cells.next(first, first + count)
+    } else {
+        None
+    }
+}
+
 impl Mapping {
     /// Whether its length and what stands behind it are right.
-    fn is_right(&self) -> bool
-        ensures { result ≡ is_mappable 4 [] self.now.len self.now.backing }
+    fn is_right(&self, shelf: &Shelf) -> bool
+        ensures { result ≡ is_mappable 4 shelf.now self.now.len self.now.backing }
     {
-        match self.backing {
-            Backing::Zero => self.len > 0 && self.len <= GREATEST_LEN,
-            Backing::File { .. } => false,
-        }
+        self.len > 0 && self.len <= GREATEST_LEN && is_backing(shelf, self.backing)
     }
 
-    /// Fills a free range of pages, and puts in the tables above it.
-    fn fill(
+    /// Maps its pages from one on, which take the place of what was there, and puts in the tables above them.
+    fn put_in(
         &self,
         alloc: Global,
         cells: &mut AddressSpace,
         tables: &mut Tables,
+        frames: &mut Owners,
+        slots: &mut Owners,
         first: u64,
     ) -> Result<(), AllocError>
         requires some { 0 < self.now.len }
         requires fits { first + pages_of self.now.len < 2 ^ 36 }
         requires index { index_of self.now.backing + pages_of self.now.len < 2 ^ 64 }
-        requires free { is_free cells.old first (pages_of self.now.len) ≡ true }
-        ensures cells_after { OnOk result (cells.new ≡ filled self.now first cells.old) }
-        ensures tables_after { OnOk result (tables.new ≡ tables_with self.now first tables.old) }
-        ensures cells_stay { OnErr result (cells.new ≡ cells.old) }
+        requires frames { IsCounted frame_of frames.old cells.old }
+        requires slots { IsCounted slot_of slots.old cells.old }
+        ensures cells { OnOk result (cells.new ≡ filled self.now first cells.old) }
+        ensures tables { OnOk result (tables.new ≡ tables_with self.now first tables.old) }
+        ensures frames { OnOk result (Follows None frame_of frames.old frames.new cells.old cells.new) }
+        ensures slots { OnOk result (Follows None slot_of slots.old slots.new cells.old cells.new) }
+        ensures kept { OnErr result (Keeps cells.old cells.new frames.old frames.new slots.old slots.new) }
         ensures tables_stay { OnErr result (tables.new ≡ tables.old) }
     {
         let count = pages(self.len);
-        cells.fill(first, count, self.perm, self.backing)?;
-        match tables.add_above(alloc, self.space.number(), first, count) {
+        let new = NewPages {
+            first,
+            count,
+            perm: self.perm,
+            backing: self.backing,
+        };
+        let added = tables.add_above(alloc, self.space.number(), first, count)?;
+        match cells.replace(alloc, new, frames, slots) {
             Ok(()) => Ok(()),
             Err(wanting) => {
-                cells.unmap(first, count);
+                tables.remove_all(&added);
                 Err(wanting)
             }
         }
-    }
-
-    /// The same in a space that is present.
-    fn fill_space(
-        &self,
-        alloc: Global,
-        spaces: &mut Spaces,
-        tables: &mut Tables,
-        first: u64,
-    ) -> Result<(), AllocError>
-        requires some { 0 < self.now.len }
-        requires fits { first + pages_of self.now.len < 2 ^ 36 }
-        requires index { index_of self.now.backing + pages_of self.now.len < 2 ^ 64 }
-        requires present { IsSome (map.get spaces.old self.now.space) }
-        requires free { is_free (unwrap_or (map.get spaces.old self.now.space) map.empty) first (pages_of self.now.len) ≡ true }
-        ensures spaces_after { OnOk result (spaces.new ≡ map.insert spaces.old self.now.space
-            (filled self.now first (unwrap_or (map.get spaces.old self.now.space) map.empty))) }
-        ensures tables_after { OnOk result (tables.new ≡ tables_with self.now first tables.old) }
-        ensures spaces_stay { OnErr result (spaces.new ≡ spaces.old) }
-        ensures tables_stay { OnErr result (tables.new ≡ tables.old) }
-    {
-        let cells = spaces.get_mut(self.space.number()).unwrap();
-        self.fill(alloc, cells, tables, first)
     }
 }
 
@@ -117,6 +127,53 @@ impl Plain {
         }
     }
 
+    /// The reply that there are too few page tables for the pages of a range, if there are.
+    pub(crate) fn lack_of_tables(
+        &self,
+        space: u8,
+        first: u64,
+        count: u64,
+        limbo: u32,
+    ) -> Option<Reply>
+        requires some { 0 < count }
+        requires fits { first + count ≤ 2 ^ 36 }
+        requires legal { linked self.now + limbo ≤ self.now.limits.tables }
+        ensures { result ≡ tables_lack self.now (above 4 space first count) limbo }
+    {
+        let linked = self.tables.len() as u32;
+        let need = self.tables.need(space, first, count);
+        if u64::from(linked) + need + u64::from(limbo) <= u64::from(self.limits.tables) {
+            return None;
+        }
+        Some(Reply::NoTables {
+            linked,
+            limbo,
+            need,
+        })
+    }
+
+    /// Maps the pages of a mapping from one on.
+    pub(crate) fn put(
+        &mut self,
+        alloc: Global,
+        mapping: &Mapping,
+        first: u64,
+    ) -> Result<(), AllocError>
+        requires { MayPut self.old mapping.now first }
+        ensures ok { OnOk result (self.new ≡ after_put self.old mapping.now first) }
+        ensures err { OnErr result (self.new ≡ self.old) }
+    {
+        let cells = self.spaces.get_mut(mapping.space.number()).unwrap();
+        mapping.put_in(
+            alloc,
+            cells,
+            &mut self.tables,
+            &mut self.frames,
+            &mut self.slots,
+            first,
+        )
+    }
+
     /// The first page of a mapping, or the reply that refuses it.
     fn place(&self, thread: u8, mapping: &Mapping, limbo: u32) -> Result<u64, Reply>
         requires thread { thread < 8 }
@@ -126,7 +183,7 @@ impl Plain {
     {
         let spaces = &self.spaces;
         let space = mapping.space.number();
-        if !mapping.is_right() {
+        if !mapping.is_right(&self.shelf) {
             return Err(Reply::Einval);
         }
         let Some(cells) = spaces.get(space) else {
@@ -136,16 +193,10 @@ impl Plain {
         let Some(first) = cells.gap(thread, self.fronts.get(space, thread), count) else {
             return Err(Reply::NoRoom);
         };
-        let linked = self.tables.len() as u32;
-        let need = self.tables.need(space, first, count);
-        if u64::from(linked) + need + u64::from(limbo) > u64::from(self.limits.tables) {
-            return Err(Reply::NoTables {
-                linked,
-                limbo,
-                need,
-            });
+        match self.lack_of_tables(space, first, count, limbo) {
+            Some(refused) => Err(refused),
+            None => Ok(first),
         }
-        Ok(first)
     }
 
     /// Maps pages at the least gap of a thread's arena.
@@ -163,7 +214,7 @@ impl Plain {
     {
         match self.place(thread, mapping, limbo) {
             Ok(first) => {
-                mapping.fill_space(alloc, &mut self.spaces, &mut self.tables, first)?;
+                self.put(alloc, mapping, first)?;
                 Ok(Reply::At(4096 * first))
             }
             Err(refused) => Ok(refused),
@@ -185,5 +236,54 @@ impl Plain {
     {
         self.note_full_pages(thread, mapping.space.number());
         self.map_at_gap(alloc, thread, mapping, limbo)
+    }
+
+    /// The first page of a mapping at an address, or the reply that refuses it. A fresh one needs a range without pages.
+    fn fixed_place(&self, mapping: &Mapping, at: u64, fresh: bool, limbo: u32) -> Result<u64, Reply>
+        requires { linked self.now + limbo ≤ self.now.limits.tables }
+        ensures refused { IfErr result (λ reply. (thread : ℕ) → refusal self.now thread (call_at mapping.now at fresh) limbo ≡ Some reply) }
+        ensures fixed { IfOk result (λ first. IsFixed self.now mapping.now at fresh limbo first) }
+    {
+        let spaces = &self.spaces;
+        let space = mapping.space.number();
+        if !mapping.is_right(&self.shelf) {
+            return Err(Reply::Einval);
+        }
+        let Some(range) = Range::of_bytes(at, mapping.len) else {
+            return Err(Reply::Einval);
+        };
+        let Some(cells) = spaces.get(space) else {
+            return Err(Reply::NoSpace);
+        };
+        let (first, count) = (range.first(), range.count());
+        if let Some(page) = mapped_page(cells, fresh, first, count) {
+            return Err(Reply::Exists(4096 * page));
+        }
+        match self.lack_of_tables(space, first, count, limbo) {
+            Some(refused) => Err(refused),
+            None => Ok(first),
+        }
+    }
+
+    /// Maps pages at an address, which take the place of what was there. A fresh mapping needs a range without pages.
+    pub(crate) fn map_at(
+        &mut self,
+        alloc: Global,
+        mapping: &Mapping,
+        at: u64,
+        fresh: bool,
+        limbo: u32,
+    ) -> Result<Reply, AllocError>
+        requires { linked self.old + limbo ≤ self.old.limits.tables }
+        ensures ok { IfOk result (λ reply. (thread : ℕ) → (reply, self.new) ≡ step self.old thread (call_at mapping.now at fresh) limbo) }
+        ensures err { OnErr result (self.new ≡ self.old) }
+    {
+        match self.fixed_place(mapping, at, fresh, limbo) {
+            Ok(first) => {
+                self.put(alloc, mapping, first)?;
+                Ok(Reply::At(at))
+            }
+            Err(refused) => Ok(refused),
+        }
     }
 }

@@ -1,16 +1,13 @@
 //! The plain machine.
-ghost use Rattle.std.specs.Prelude.{◌≡◌, [], ◌+◌, ◌≤◌, IfOk};
+ghost use Rattle.std.specs.Prelude.{◌≡◌, ◌+◌, ◌≤◌, IfOk};
 ghost use Rattle.std.specs.Option.{option_map};
 ghost use Rattle.std.specs.FinMap as map;
 ghost use Rattle.page_map.specs.Cell.{status_of};
 ghost use Rattle.page_map.specs.State.{IsWithinLimits, start, linked, accounts};
 
-use crate::fronts::Fronts;
-use crate::owners::Owners;
-use crate::space::AddressSpace;
-use crate::spaces::Spaces;
-use crate::tables::Tables;
 use corten_base::{Accounts, Limits, SpaceId, Status};
+use file_shelf::Shelf;
+use plain_spaces::{AddressSpace, Fronts, Owners, Spaces, Tables};
 use std::alloc::{AllocError, Global};
 use std::marker::Model;
 use table_place::Place;
@@ -22,13 +19,13 @@ pub struct Plain {
     pub(crate) spaces: Spaces,
     pub(crate) tables: Tables,
     pub(crate) limits: Limits,
+    pub(crate) shelf: Shelf,
     pub(crate) frames: Owners,
     pub(crate) slots: Owners,
     pub(crate) fronts: Fronts,
 }
 
 impl Model for Plain {
-    ghost use Rattle.std.specs.Prelude.{[]};
     ghost use Rattle.page_map.specs.State.{State};
     ghost use Rattle.page_map.specs.StateCode.{state_code};
     ghost use Rattle.mm_model.specs.Plain.{IsSound};
@@ -37,9 +34,9 @@ impl Model for Plain {
 
     ghost coded = { state_code };
 
-    ghost view = { λ a. record { spaces = a.spaces; tables = a.tables; limits = a.limits; files = [] } };
+    ghost view = { λ a. record { spaces = a.spaces; tables = a.tables; limits = a.limits; files = a.shelf } };
 
-    ghost invariant = { λ a. IsSound (record { spaces = a.spaces; tables = a.tables; limits = a.limits; files = [] }) a.frames a.slots a.fronts };
+    ghost invariant = { λ a. IsSound (record { spaces = a.spaces; tables = a.tables; limits = a.limits; files = a.shelf }) a.frames a.slots a.fronts };
 }
 
 /// The page table at the top of space 0.
@@ -50,10 +47,10 @@ const FIRST_ROOT: Place = Place {
 };
 
 impl Plain {
-    /// The machine in which space 0 is present and empty.
-    pub fn new(alloc: Global, limits: Limits) -> Result<Plain, AllocError>
+    /// The machine with the files of a shelf, in which space 0 is present and empty.
+    pub fn new(alloc: Global, limits: Limits, shelf: Shelf) -> Result<Plain, AllocError>
         requires { IsWithinLimits limits }
-        ensures ok { IfOk result (λ plain. plain ≡ start limits []) }
+        ensures ok { IfOk result (λ plain. plain ≡ start limits shelf) }
         ensures fits { IfOk result (λ plain. linked plain ≤ plain.limits.tables) }
     {
         let mut spaces = Spaces::new(alloc);
@@ -64,6 +61,7 @@ impl Plain {
             spaces,
             tables,
             limits,
+            shelf,
             frames: Owners::new(alloc, limits.frames)?,
             slots: Owners::new(alloc, limits.swap)?,
             fronts: Fronts::new(alloc)?,

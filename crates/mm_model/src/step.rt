@@ -1,5 +1,6 @@
 //! One step of the plain machine.
 ghost use Rattle.std.specs.Prelude.{◌≡◌, ◌+◌, ◌<◌, ◌≤◌, ◌↔◌, IfOk, OnErr, Err};
+ghost use Rattle.corten_base.specs.declared.calls.Call.TheVariants as call;
 ghost use Rattle.page_map.specs.State.{linked};
 ghost use Rattle.page_map.specs.Step.{step};
 ghost use Rattle.mm_model.specs.Served.{IsServed};
@@ -33,6 +34,28 @@ impl From<AllocError> for StepFault {
 }
 
 impl Plain {
+    /// Maps pages at a place.
+    fn map(
+        &mut self,
+        alloc: Global,
+        thread: u8,
+        mapping: &Mapping,
+        place: MapPlace,
+        limbo: u32,
+    ) -> Result<Reply, AllocError>
+        requires thread { thread < 8 }
+        requires legal { linked self.old + limbo ≤ self.old.limits.tables }
+        ensures ok { IfOk result (λ reply. (reply, self.new)
+            ≡ step self.old thread (call.Map mapping.now.space place mapping.now.len mapping.now.perm mapping.now.backing) limbo) }
+        ensures err { OnErr result (self.new ≡ self.old) }
+    {
+        match place {
+            MapPlace::Any => self.map_any(alloc, thread, mapping, limbo),
+            MapPlace::At(at) => self.map_at(alloc, mapping, at, false, limbo),
+            MapPlace::New(at) => self.map_at(alloc, mapping, at, true, limbo),
+        }
+    }
+
     /// Makes a call, where no more page tables are linked and in limbo than there are.
     fn answer(
         &mut self,
@@ -50,7 +73,7 @@ impl Plain {
         match call {
             Call::Map {
                 space,
-                place: MapPlace::Any,
+                place,
                 len,
                 perm,
                 backing,
@@ -61,17 +84,25 @@ impl Plain {
                     perm: *perm,
                     backing: *backing,
                 };
-                self.map_any(alloc, thread, &mapping, limbo)
+                self.map(alloc, thread, &mapping, *place, limbo)
             }
+            Call::Unmap { space, at, len } => Ok(self.unmap(*space, *at, *len)),
+            Call::Protect {
+                space,
+                at,
+                len,
+                perm,
+            } => Ok(self.protect(*space, *at, *len, *perm)),
             Call::Load { space, at, len } => self.load(alloc, *space, *at, *len),
             Call::Store { space, at, bytes } => self.store(alloc, *space, *at, bytes),
+            Call::Fault { space, at, write } => self.fault(alloc, *space, *at, *write),
             _ => unreachable!(),
         }
     }
 
     /// Makes a call for a thread, where so many page tables are in limbo, and gives its reply.
     ///
-    /// The calls are `map any`, `load` and `store`; an access is of 1 to 4,096 bytes, and a thread's number
+    /// The calls are `map` in its three forms, `unmap`, `protect`, `load`, `store` and `fault`; an access is of 1 to 4,096 bytes, and a thread's number
     /// is below 8.
     pub fn step(
         &mut self,

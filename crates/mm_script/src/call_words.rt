@@ -11,7 +11,7 @@ use std::alloc::{AllocError, Global};
 use text_words::{Words, read_address, read_hex, read_number, read_perm};
 
 /// The next word, where it is this one.
-pub(crate) fn next_name(words: &mut Words<'_>, name: &[u8]) -> Option<()>
+pub fn next_name(words: &mut Words<'_>, name: &[u8]) -> Option<()>
     ensures found { OnSome result (words.old ≡ name.now ∷ words.new) }
     ensures none { IfNone result ((rest : List (List ℕ)) → words.old ≢ name.now ∷ rest) }
 {
@@ -19,7 +19,7 @@ pub(crate) fn next_name(words: &mut Words<'_>, name: &[u8]) -> Option<()>
 }
 
 /// The number that the next word spells.
-pub(crate) fn next_number(words: &mut Words<'_>) -> Option<u64>
+pub fn next_number(words: &mut Words<'_>) -> Option<u64>
     ensures found { IfSome result (λ n. words.old ≡ number n ∷ words.new) }
     ensures none { IfNone result ((n : ℕ) (rest : List (List ℕ)) → n < 2 ^ 64 → words.old ≢ number n ∷ rest) }
 {
@@ -27,7 +27,7 @@ pub(crate) fn next_number(words: &mut Words<'_>) -> Option<u64>
 }
 
 /// The address that the next word spells.
-pub(crate) fn next_address(words: &mut Words<'_>) -> Option<u64>
+pub fn next_address(words: &mut Words<'_>) -> Option<u64>
     ensures found { IfSome result (λ n. words.old ≡ address n ∷ words.new) }
     ensures none { IfNone result ((n : ℕ) (rest : List (List ℕ)) → n < 2 ^ 64 → words.old ≢ address n ∷ rest) }
 {
@@ -35,7 +35,7 @@ pub(crate) fn next_address(words: &mut Words<'_>) -> Option<u64>
 }
 
 /// The number from `low` to `high` that the next word spells.
-pub(crate) fn next_within(words: &mut Words<'_>, low: u64, high: u64) -> Option<u64>
+pub fn next_within(words: &mut Words<'_>, low: u64, high: u64) -> Option<u64>
     ensures found { IfSome result (λ n. IsWithin low high n × (words.old ≡ number n ∷ words.new)) }
     ensures none { IfNone result ((n : ℕ) (rest : List (List ℕ)) → IsWithin low high n → words.old ≢ number n ∷ rest) }
 {
@@ -100,10 +100,7 @@ fn is_access_long(word: &[u8]) -> bool
 }
 
 /// The bytes of an access, which the next word spells.
-pub(crate) fn next_bytes(
-    alloc: Global,
-    words: &mut Words<'_>,
-) -> Result<Option<ByteList>, AllocError>
+pub fn next_bytes(alloc: Global, words: &mut Words<'_>) -> Result<Option<ByteList>, AllocError>
     ensures found { IfOk result (λ read. IfSome read (λ bytes.
         IsAccess (length bytes) × All (λ b. b < 256) bytes × (words.old ≡ hex bytes ∷ words.new))) }
     ensures none { IfOk result (λ read. IfNone read ((bytes : List ℕ) (rest : List (List ℕ)) →

@@ -39,7 +39,7 @@ fn next_limit(lines: &mut Lines<'_>, name: &[u8], low: u32, high: u32) -> Result
 }
 
 /// The number of a limit's line.
-fn limit_of(line: &[u8], name: &[u8], low: u32, high: u32) -> Option<u32>
+pub fn limit_of(line: &[u8], name: &[u8], low: u32, high: u32) -> Option<u32>
     ensures found { IfSome result (λ n. IsWithin low high n × (words_of line.now ≡ limit_words name.now n)) }
     ensures none { IfNone result ((n : ℕ) → IsWithin low high n → words_of line.now ≢ limit_words name.now n) }
 {

@@ -14,8 +14,10 @@ mod reading;
 mod script;
 mod threads;
 
+pub use call_words::{next_address, next_bytes, next_name, next_number, next_within};
 pub use calls::{next_call, print_call, push_call, read_call};
 pub use fault::ScriptFault;
+pub use header::limit_of;
 pub use laws::{
     a_line_has_one_call, a_text_has_one_first_fault, a_text_has_one_script,
     words_begin_with_one_call,

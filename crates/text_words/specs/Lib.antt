@@ -1,3 +1,5 @@
+pub mod Grammar
 pub mod Layout
+pub mod Passing
 pub mod Printed
 pub mod Spelling

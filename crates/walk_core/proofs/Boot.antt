@@ -1,5 +1,5 @@
 -- The core at the start is good.
-use Rattle.std.proofs.Common.{◌≡◌, ◌≢◌, ℕ, zero, suc, ◌+◌, ◌*◌, ◌-◌, ◌/◌, ◌%◌, ◌^◌, ◌<◌, ◌≤◌, ◌==◌, ◌⊎◌, Bool, true, false, cond, ◌&&◌, List, [], ◌∷◌, map, replicate, length, get_or, sym, refl, ap, ◌∙◌, subst, inl, inr, ⊎_elim, arith, Option, Some, None, eqb, ltb, leb, eq-eqb, ne_eqb}
+use Rattle.std.proofs.Common.{◌≡◌, ◌≢◌, ℕ, zero, suc, ◌+◌, ◌*◌, ◌-◌, ◌/◌, ◌%◌, ◌<◌, ◌≤◌, ◌==◌, ◌⊎◌, true, false, cond, ◌&&◌, replicate, get_or, sym, refl, ap, ◌∙◌, subst, inl, inr, ⊎_elim, arith, Some, None, eqb, ltb, leb, eq-eqb, ne_eqb}
 use Rattle.std.specs.List.{range_with_len, sum_by, AllByRecursion}
 use Rattle.std.proofs.lemmas.List.Sums.{sum_by-cons}
 use Rattle.std.proofs.lemmas.Bool.{lt-ltb, le-ltb, lt-leb, le-leb, cases_lt, and_from}
@@ -10,10 +10,10 @@ use native.Mathlib.Decide.{ℕ_discrete}
 use Rattle.table_place.specs.declared.Place.{Place}
 use Rattle.table_place.specs.Place.{root, directory, is_place, entry_place}
 use Rattle.walk_core.specs.declared.pass.PassCore.{PassCore}
-use Rattle.walk_core.specs.Words.{entry_at, lock_at, position_at, generation_at, epoch_at, book_at, word_count, link_word, is_link, link_row, link_generation, position_word, place_shown, stale}
-use Rattle.walk_core.specs.Lists.{times, Has, sum_below}
+use Rattle.walk_core.specs.Words.{entry_at, lock_at, epoch_at, book_at, word_count, link_word, is_link, link_row, link_generation, position_word, place_shown, stale}
+use Rattle.walk_core.specs.Lists.{times}
 use Rattle.walk_core.specs.Core.{Core, word, place_in, generation_in, pass_at, idle, times_in_hand, times_out, is_free_lock, boot_word, MayBoot, boot}
-use Rattle.walk_core.specs.Good.{Sizes, Good, LockSays, says_free, says_stale, link_at, links_to, IsTrueLink, IsPlaced, inside}
+use Rattle.walk_core.specs.Good.{Good, says_free, says_stale, link_at, links_to, IsTrueLink, IsPlaced, inside}
 use Rattle.walk_core.proofs.RowLists.{times-nil, times-cons_same, times-cons_other, sum_changed, sum_zero}
 use Rattle.walk_core.proofs.Spellings.{link_row-link_word, link_generation-link_word, is_link-link_word, zero_no_link, place_shown-position_word}
 use Rattle.walk_core.proofs.Tree.{link_of, link_at_entry, link_of_link, link_of_other, link_of_none}

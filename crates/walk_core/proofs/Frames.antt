@@ -1,8 +1,8 @@
 -- What a step leaves as it is: each part of the good core, by the place of the word and by what the pass keeps.
-use Rattle.std.proofs.Common.{◌≡◌, ◌≢◌, ℕ, ◌+◌, ◌*◌, ◌/◌, ◌%◌, ◌^◌, ◌<◌, ◌≤◌, ◌==◌, ◌⊎◌, Bool, true, false, cond, ◌&&◌, List, [], ◌∷◌, map, length, get_or, set, sym, refl, ap, ◌∙◌, subst, inl, inr, ⊎_elim, arith, length-set, get_or-set_other, get_or-set_same, Option, Some, None, eqb, ltb}
+use Rattle.std.proofs.Common.{◌≡◌, ◌≢◌, ℕ, ◌+◌, ◌*◌, ◌/◌, ◌%◌, ◌^◌, ◌<◌, ◌≤◌, ◌⊎◌, Bool, true, false, cond, ◌&&◌, List, [], ◌∷◌, map, length, get_or, set, sym, refl, ap, ◌∙◌, subst, inl, inr, ⊎_elim, arith, length-set, get_or-set_other, get_or-set_same, eqb, ltb}
 use Rattle.std.specs.List.{sum_by, AllByRecursion}
 use Rattle.std.proofs.lemmas.List.Sums.{sum_by-set}
-use Rattle.std.proofs.lemmas.Bool.{ltb-true, lt-ltb, le-ltb, cases_lt}
+use Rattle.std.proofs.lemmas.Bool.{le-ltb, cases_lt}
 use lib.Seq.{set-get_or}
 use mathlib.Core.Logic.{dite}
 use native.Mathlib.Decide.{ℕ_discrete}
@@ -13,9 +13,9 @@ use Rattle.walk_core.specs.declared.lists.PutRow.{PutRow}
 use Rattle.walk_core.specs.declared.pass.PassCore.{PassCore}
 use Rattle.walk_core.specs.declared.pass.GrantedRow.{GrantedRow}
 use Rattle.walk_core.specs.declared.pass.Stand.{Stand}
-use Rattle.walk_core.specs.Words.{entry_at, lock_at, position_at, generation_at, epoch_at, book_at, held_by, stale, is_link, link_row, place_shown}
-use Rattle.walk_core.specs.Lists.{times, Has, sum_below}
-use Rattle.walk_core.specs.Core.{Core, word, place_in, generation_in, pass_at, idle, granted_rows, limbo_rows, times_in_hand, times_out, IsLinked}
+use Rattle.walk_core.specs.Words.{entry_at, lock_at, position_at, generation_at, epoch_at, book_at, held_by, is_link, link_row, place_shown}
+use Rattle.walk_core.specs.Lists.{times, Has}
+use Rattle.walk_core.specs.Core.{Core, word, place_in, pass_at, idle, granted_rows, limbo_rows, times_in_hand, times_out, IsLinked}
 use Rattle.walk_core.specs.Events.{pass_of, place_of, number_after, pass_after, free_after, limbo_after, after}
 use Rattle.walk_core.specs.Good.{Sizes, States, IsHeld, LockSays, says_free, says_held, says_stale, RowLocks, BookLock, link_at, links_to, IsTrueLink, IsPlaced, Links, inside, times_new, IsStand, Stands}
 use Rattle.walk_core.proofs.RowLists.{sum_same}

@@ -1,11 +1,11 @@
 -- Each event keeps the core good.
-use Rattle.std.proofs.Common.{◌≡◌, ℕ, zero, suc, ◌<◌, List, [], ◌∷◌, length, get_or, sym, refl, ap, ◌∙◌, subst, ⊎_elim, arith, ◌⊎◌}
+use Rattle.std.proofs.Common.{◌≡◌, ℕ, zero, suc, ◌<◌, List, [], ◌∷◌, length, get_or, sym, subst, ⊎_elim, arith}
 use mathlib.Core.Option.{some, some-injective, some-ne-none}
 use lib.ListN.{get_elem?}
 use Rattle.walk_core.specs.declared.event.Event.{Event}
 use Rattle.walk_core.specs.declared.event.Event.TheVariants.{Enter, Leave, Look, Grab, Release, Turn, Give, SetEntry, Unlink, MarkStale, SetUp, OpenRow, Sample}
 use Rattle.walk_core.specs.declared.pass.PassCore.{PassCore}
-use Rattle.walk_core.specs.Core.{Core, boot, pass_at, idle}
+use Rattle.walk_core.specs.Core.{Core, boot, idle}
 use Rattle.walk_core.specs.Events.{pass_of, after}
 use Rattle.walk_core.specs.Guards.{Guard, IsAllowed}
 use Rattle.walk_core.specs.Good.{Good}

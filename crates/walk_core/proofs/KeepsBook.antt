@@ -1,5 +1,5 @@
 -- Turn and give keep the core good.
-use Rattle.std.proofs.Common.{◌≡◌, ◌≢◌, ℕ, ◌+◌, ◌*◌, ◌<◌, ◌≤◌, ◌==◌, ◌⊎◌, Bool, true, false, cond, not, List, [], ◌∷◌, ◌++◌, map, length, get_or, set, sym, refl, ap, ◌∙◌, subst, inl, inr, ⊎_elim, arith, eq-eqb, ne_eqb, append-nil}
+use Rattle.std.proofs.Common.{◌≡◌, ◌≢◌, ℕ, ◌+◌, ◌<◌, ◌==◌, ◌⊎◌, Bool, true, false, cond, not, List, [], ◌∷◌, ◌++◌, map, length, set, sym, refl, ap, ◌∙◌, subst, inl, inr, ⊎_elim, arith, eq-eqb, ne_eqb}
 use Rattle.std.specs.List.{filter, AllByRecursion}
 use prog.Atomic.{either}
 use mathlib.Core.Logic.{dite}
@@ -10,15 +10,15 @@ use Rattle.walk_core.specs.declared.lists.PutRow.{PutRow}
 use Rattle.walk_core.specs.declared.pass.PassCore.{PassCore}
 use Rattle.walk_core.specs.declared.pass.GrantedRow.{GrantedRow}
 use Rattle.walk_core.specs.declared.pass.UnlinkedRow.{UnlinkedRow}
-use Rattle.walk_core.specs.Words.{entry_at, lock_at, position_at, generation_at, epoch_at, book_at, held_by}
+use Rattle.walk_core.specs.Words.{lock_at, epoch_at, book_at, held_by}
 use Rattle.walk_core.specs.Lists.{times, Has, among, minus}
-use Rattle.walk_core.specs.Core.{Core, word, pass_at, no_samples, granted_rows, unlinked_rows, limbo_rows, times_in_hand, times_out}
-use Rattle.walk_core.specs.Events.{pass_of, number_after, newly_granted, unlinked_after_give, free_after, limbo_after, after}
+use Rattle.walk_core.specs.Core.{Core, word, pass_at, no_samples, granted_rows, unlinked_rows, limbo_rows, times_out}
+use Rattle.walk_core.specs.Events.{pass_of, number_after, newly_granted, unlinked_after_give, after}
 use Rattle.walk_core.specs.Guards.{MayGive, put_rows, IsAllowed}
 use Rattle.walk_core.specs.Good.{Good, BookLock, IsPlaced}
 use Rattle.walk_core.proofs.RowLists.{times-nil, times-append, times-cons, times_kept, times_dropped, times_minus_same, times_minus_other, among_true, among_false}
-use Rattle.walk_core.proofs.Frames.{spot, actor, Moves, word_other, word_here, rows_stay_past, each_pass, pass_here, out_moved, new_moved, out_same, new_same, sizes_on, states_on, row_locks_on, row_locks_same, book_on, links_on, stands_on}
-use Rattle.walk_core.proofs.Facts.{root_linked, hand-le-out, parts-le-out, out-le-one, unchanged}
+use Rattle.walk_core.proofs.Frames.{spot, Moves, word_other, word_here, rows_stay_past, each_pass, pass_here, out_moved, new_moved, out_same, new_same, sizes_on, states_on, row_locks_on, row_locks_same, links_on, stands_on}
+use Rattle.walk_core.proofs.Facts.{root_linked, parts-le-out, out-le-one, unchanged}
 
 -- The book's lock word becomes n, and the pass has the book where n says so.
 pub rebooked : {c : Core} {e : Event} {w : PassCore} (m : Moves c e w) (n : ℕ) → spot c e ≡ book_at c.rows c.count → book_at c.rows c.count < length c.words → number_after e (word c (spot c e)) ≡ n

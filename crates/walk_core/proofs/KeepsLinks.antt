@@ -10,15 +10,15 @@ use Rattle.walk_core.specs.declared.event.Event.TheVariants.{SetEntry, Unlink}
 use Rattle.walk_core.specs.declared.pass.PassCore.{PassCore}
 use Rattle.walk_core.specs.declared.pass.GrantedRow.{GrantedRow}
 use Rattle.walk_core.specs.declared.pass.UnlinkedRow.{UnlinkedRow}
-use Rattle.walk_core.specs.Words.{entry_at, lock_at, position_at, generation_at, epoch_at, book_at, is_link, link_row, link_generation, place_shown}
-use Rattle.walk_core.specs.Lists.{times, Has, sum_below}
-use Rattle.walk_core.specs.Core.{Core, word, place_in, generation_in, pass_at, granted_rows, unlinked_rows, times_in_hand, times_out, IsLinked}
+use Rattle.walk_core.specs.Words.{entry_at, lock_at, position_at, generation_at, epoch_at, book_at, is_link, link_row, place_shown}
+use Rattle.walk_core.specs.Lists.{times, Has}
+use Rattle.walk_core.specs.Core.{Core, word, place_in, pass_at, granted_rows, unlinked_rows, times_in_hand, times_out, IsLinked}
 use Rattle.walk_core.specs.Events.{pass_of, number_after, newly_unlinked, granted_after_entry, after}
-use Rattle.walk_core.specs.Guards.{MaySet, MayLink, MayMap, MayUnlink, IsAllowed}
+use Rattle.walk_core.specs.Guards.{MayLink, MayMap, IsAllowed}
 use Rattle.walk_core.specs.Good.{Good, link_at, links_to, IsTrueLink, IsPlaced, Links, times_new}
 use Rattle.walk_core.proofs.RowLists.{times-nil, times-cons, times_kept, times_dropped, times_one_same, times_one_other, sum_changed}
 use Rattle.walk_core.proofs.Spellings.{zero_no_link, leaf_no_link}
-use Rattle.walk_core.proofs.Tree.{link_of, link_at_entry, link_of_link, link_of_other, link_of_none, entry_inside, names_there, names_no_root, names_linked, linker_linked}
+use Rattle.walk_core.proofs.Tree.{link_of, link_at_entry, link_of_link, link_of_other, link_of_none, entry_inside, names_no_root, names_linked, linker_linked}
 use Rattle.walk_core.proofs.Facts.{hand-le-out, granted-le-new, out-le-one, hand_there}
 use Rattle.walk_core.proofs.Frames.{spot, actor, Moves, word_other, word_here, each_pass, held_on, ShownStays, out_same, new_same, out_moved, new_moved, sizes_on, states_on, row_locks_on, row_locks_same, book_on, placed_on, stands_by}
 

@@ -1,24 +1,22 @@
 -- Grab and release keep the core good.
-use Rattle.std.proofs.Common.{◌≡◌, ◌≢◌, ℕ, ◌+◌, ◌*◌, ◌<◌, ◌≤◌, ◌==◌, ◌⊎◌, Bool, true, false, cond, List, [], ◌∷◌, ◌++◌, length, get_or, set, sym, refl, ap, ◌∙◌, subst, inl, inr, ⊎_elim, arith, eq-eqb, ne_eqb}
+use Rattle.std.proofs.Common.{◌≡◌, ◌≢◌, ℕ, ◌<◌, ◌==◌, ◌⊎◌, Bool, true, cond, [], ◌∷◌, ◌++◌, set, sym, refl, ap, ◌∙◌, subst, ⊎_elim, arith, eq-eqb, ne_eqb}
 use prog.Atomic.{either}
 use mathlib.Core.Logic.{dite}
 use native.Mathlib.Decide.{ℕ_discrete}
 use Rattle.table_place.specs.Place.{is_place}
-use Rattle.walk_core.specs.declared.event.Event.{Event}
 use Rattle.walk_core.specs.declared.event.Event.TheVariants.{Grab, Release}
 use Rattle.walk_core.specs.declared.pass.PassCore.{PassCore}
-use Rattle.walk_core.specs.declared.pass.Stand.{Stand}
-use Rattle.walk_core.specs.Words.{entry_at, lock_at, position_at, generation_at, epoch_at, book_at, held_by}
-use Rattle.walk_core.specs.Lists.{times, Has, without}
-use Rattle.walk_core.specs.Core.{Core, word, place_in, pass_at, times_in_hand, times_out, IsLinked}
-use Rattle.walk_core.specs.Events.{pass_of, after}
-use Rattle.walk_core.specs.Guards.{StandsOn, HoldsLinker, Guard, IsAllowed}
+use Rattle.walk_core.specs.Words.{lock_at, epoch_at, book_at, held_by}
+use Rattle.walk_core.specs.Lists.{times, without}
+use Rattle.walk_core.specs.Core.{Core, word, place_in, pass_at}
+use Rattle.walk_core.specs.Events.{after}
+use Rattle.walk_core.specs.Guards.{StandsOn, HoldsLinker, IsAllowed}
 use Rattle.walk_core.specs.Good.{Good, says_free, says_held}
 use Rattle.walk_core.proofs.RowLists.{times_push_same, times_push_other, times_without_same, times_without_other, times_without_le}
 use Rattle.walk_core.proofs.Tree.{names_there}
 use Rattle.walk_core.proofs.Frames.{Moves, word_other, pass_here, rows_stay_lock, out_same, new_same, sizes_on, states_on, book_on, links_on, stands_on}
 use Rattle.walk_core.proofs.Relocks.{relocked}
-use Rattle.walk_core.proofs.Facts.{root_linked, hand-le-out, free_unheld, free_linked, held_alone, tested, unchanged}
+use Rattle.walk_core.proofs.Facts.{root_linked, hand-le-out, free_unheld, free_linked, held_alone, unchanged}
 
 -- a row that a pass may grab is there
 pub grabbed_there : (c : Core) (p r : ℕ) → Good c → StandsOn (pass_at c p) r ⊎ HoldsLinker c (pass_at c p) r → r < c.rows

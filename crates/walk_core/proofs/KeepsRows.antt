@@ -1,5 +1,5 @@
 -- Mark stale, open row and set up keep the core good.
-use Rattle.std.proofs.Common.{◌≡◌, ◌≢◌, ℕ, ◌+◌, ◌*◌, ◌-◌, ◌^◌, ◌<◌, ◌≤◌, ◌==◌, ◌⊎◌, Bool, true, false, cond, List, [], ◌∷◌, ◌++◌, map, length, get_or, sym, refl, ap, ◌∙◌, subst, inl, inr, ⊎_elim, arith, Option, Some, None, eq-eqb, ne_eqb, ltb, leb}
+use Rattle.std.proofs.Common.{◌≡◌, ◌≢◌, ℕ, ◌+◌, ◌-◌, ◌^◌, ◌<◌, ◌≤◌, ◌==◌, Bool, true, false, cond, List, [], ◌∷◌, ◌++◌, map, sym, refl, ap, ◌∙◌, subst, ⊎_elim, arith, Some, eq-eqb, ne_eqb, ltb, leb}
 use Rattle.std.specs.List.{find, AllByRecursion}
 use Rattle.std.proofs.lemmas.Bool.{and_parts, ltb-true}
 use mathlib.Core.Logic.{dite}
@@ -13,15 +13,15 @@ use Rattle.walk_core.specs.declared.event.SetPart.{SetPart}
 use Rattle.walk_core.specs.declared.event.SetPart.TheVariants.{Position, Generation}
 use Rattle.walk_core.specs.declared.pass.PassCore.{PassCore}
 use Rattle.walk_core.specs.declared.pass.GrantedRow.{GrantedRow}
-use Rattle.walk_core.specs.Words.{entry_at, lock_at, position_at, generation_at, epoch_at, book_at, held_by, stale, place_shown, position_word}
+use Rattle.walk_core.specs.Words.{entry_at, lock_at, position_at, generation_at, epoch_at, book_at, place_shown, position_word}
 use Rattle.walk_core.specs.Lists.{times, Has, without}
-use Rattle.walk_core.specs.Core.{Core, word, place_in, pass_at, idle, granted_rows, unlinked_rows, times_in_hand, times_out}
-use Rattle.walk_core.specs.Events.{pass_of, with_part, granted_after_part, part_place, part_word, HasSpelling, after}
-use Rattle.walk_core.specs.Guards.{MayWrite, IsAllowed}
-use Rattle.walk_core.specs.Good.{Good, RowLocks, IsPlaced, times_new, says_held, says_stale}
-use Rattle.walk_core.proofs.RowLists.{times-nil, times-cons_same, times-cons_other, times-cons, times_push_same, times_push_other, times_without_same, times_without_other, times_without_le, granted_found}
+use Rattle.walk_core.specs.Core.{Core, word, place_in, pass_at, granted_rows, unlinked_rows, times_in_hand}
+use Rattle.walk_core.specs.Events.{with_part, granted_after_part, part_place, HasSpelling, after}
+use Rattle.walk_core.specs.Guards.{IsAllowed}
+use Rattle.walk_core.specs.Good.{Good, IsPlaced, times_new, says_held, says_stale}
+use Rattle.walk_core.proofs.RowLists.{times_push_same, times_push_other, times_without_same, times_without_other, times_without_le, granted_found}
 use Rattle.walk_core.proofs.Spellings.{place_shown-position_word, prefixes_low}
-use Rattle.walk_core.proofs.Frames.{Moves, TreeStays, spot, word_other, word_here, pass_here, each_pass, held_same, rows_stay_lock, out_same, new_same, sizes_on, states_on, row_locks_same, book_on, links_by, links_on, stands_by, stands_on}
+use Rattle.walk_core.proofs.Frames.{Moves, TreeStays, word_other, word_here, pass_here, each_pass, held_same, rows_stay_lock, out_same, new_same, sizes_on, states_on, row_locks_same, book_on, links_by, links_on, stands_by, stands_on}
 use Rattle.walk_core.proofs.Relocks.{relocked}
 use Rattle.walk_core.proofs.Facts.{root_linked, hand-le-out, granted-le-new, out-le-one, held_alone, stale_unheld, hand_there}
 

@@ -1,5 +1,5 @@
 -- Enter, leave and look keep the core good.
-use Rattle.std.proofs.Common.{◌≡◌, ◌≢◌, ℕ, ◌+◌, ◌*◌, ◌%◌, ◌^◌, ◌<◌, ◌≤◌, ◌==◌, ◌⊎◌, Bool, true, false, cond, ◌&&◌, List, map, sym, refl, ap, ◌∙◌, subst, inl, inr, ⊎_elim, arith, Option, Some, None}
+use Rattle.std.proofs.Common.{◌≡◌, ◌≢◌, ℕ, ◌+◌, ◌%◌, ◌^◌, ◌<◌, ◌≤◌, ◌==◌, Bool, true, false, cond, ◌&&◌, List, map, sym, refl, ap, ◌∙◌, subst, ⊎_elim, arith, Option, Some, None}
 use Rattle.std.specs.Option.{is_some}
 use Rattle.std.specs.List.{AllByRecursion}
 use Rattle.std.proofs.lemmas.Bool.{and_parts, eqb-true, cases_Bool}
@@ -17,7 +17,7 @@ use Rattle.walk_core.specs.Core.{Core, word, pass_at, times_out}
 use Rattle.walk_core.specs.Events.{pass_of, number_after, top, stand_after_look, after}
 use Rattle.walk_core.specs.Guards.{IsAllowed}
 use Rattle.walk_core.specs.Good.{IsPlaced, Links, inside, times_new, IsStand, Stands, Good}
-use Rattle.walk_core.proofs.Tree.{names_there, names_linked}
+use Rattle.walk_core.proofs.Tree.{names_linked}
 use Rattle.walk_core.proofs.Frames.{spot, actor, Moves, ShownStays, shown_stays, word_other, word_here, word_read, each_pass, rows_stay_past, rows_stay_read, out_same, new_same, sizes_on, states_on, row_locks_same, book_on, links_on, stand_stays}
 use Rattle.walk_core.proofs.Facts.{root_linked, new-le-out}
 

@@ -1,8 +1,7 @@
 -- The lists of a good core fit into room for every row.
-use Rattle.std.proofs.Common.{◌≡◌, ◌≢◌, ℕ, ◌+◌, ◌<◌, ◌≤◌, false, not, cond, List, [], ◌∷◌, ◌++◌, map, length, sym, refl, ap, ◌∙◌, subst, ⊎_elim, arith, length-append}
+use Rattle.std.proofs.Common.{◌≡◌, ℕ, ◌+◌, ◌<◌, ◌≤◌, false, not, cond, List, [], ◌∷◌, ◌++◌, map, length, refl, ap, ◌∙◌, subst, arith, length-append}
 use Rattle.std.specs.List.{filter}
 use Rattle.std.specs.Vec.{vec_len, vec_capacity}
-use Rattle.std.proofs.lemmas.Bool.{cases_lt}
 use Rattle.std.proofs.lemmas.List.{length-map}
 use mathlib.Core.Logic.{dite}
 use native.Mathlib.Decide.{ℕ_discrete}
@@ -14,12 +13,11 @@ use Rattle.walk_core.specs.declared.pass.GrantedRow.{GrantedRow}
 use Rattle.walk_core.specs.declared.pass.UnlinkedRow.{UnlinkedRow}
 use Rattle.walk_core.specs.declared.room.PassRoom.{PassRoom}
 use Rattle.walk_core.specs.declared.machine.Core.TheInside.{Inside}
-use Rattle.walk_core.specs.Lists.{times, Has, among}
+use Rattle.walk_core.specs.Lists.{times, among}
 use Rattle.walk_core.specs.Core.{Core, pass_at, granted_rows, unlinked_rows, limbo_rows, times_in_hand, times_out}
-use Rattle.walk_core.specs.Events.{newly_granted, unlinked_after_give, limbo_after, after}
+use Rattle.walk_core.specs.Events.{newly_granted, unlinked_after_give, limbo_after}
 use Rattle.walk_core.specs.Guards.{IsAllowed}
 use Rattle.walk_core.specs.Good.{Good}
-use Rattle.walk_core.specs.Rooms.{pass_core}
 use Rattle.walk_core.specs.Kept.{core_of, IsKept}
 use Rattle.walk_core.proofs.RowLists.{times-nil, among_false}
 use Rattle.walk_core.proofs.Facts.{hand-le-out, parts-le-out, out-le-one}

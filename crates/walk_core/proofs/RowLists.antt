@@ -1,9 +1,8 @@
 -- How many times a row stands in a list, and sums over the numbers below another.
 use Rattle.std.proofs.Common.{◌≡◌, ◌≢◌, ℕ, zero, suc, ◌+◌, ◌<◌, ◌≤◌, ◌==◌, Bool, true, false, cond, not, ◌||◌, List, [], ◌∷◌, ◌++◌, map, length, get_or, sym, refl, ap, ◌∙◌, subst, Some, ltb, arith, eq-eqb, ne_eqb}
-use Rattle.std.specs.List.{filter, sum_by, count_by, list_any, find, range_with_len}
+use Rattle.std.specs.List.{filter, list_any, find, range_with_len}
 use Rattle.std.proofs.lemmas.List.Sums.{sum_by-cons, sum_by-append}
 use Rattle.std.proofs.lemmas.Bool.{lt-ltb, le-ltb, ltb-true, ltb-false}
-use mathlib.Core.Logic.{◌⊎◌}
 use mathlib.Core.Logic.{dite}
 use native.Mathlib.Decide.{ℕ_discrete}
 use Rattle.walk_core.specs.declared.pass.GrantedRow.{GrantedRow}

@@ -6,18 +6,17 @@
 --     times_out, IsLinked      how many times a row is out of the tree of links, and that it is in the tree
 --     state_of      what becomes of a row
 --     MayBoot, boot      how many levels, rows and passes there may be, and the core at the start
-use Rattle.std.specs.Prelude.{◌≡◌, ℕ, ◌+◌, ◌-◌, ◌*◌, ◌/◌, ◌%◌, ◌<◌, ◌≤◌, Bool, true, false, ◌&&◌, ◌⊎◌, cond, List, [], ◌∷◌, map, replicate, slice_index, slice_index_or, Option, None, Some, nat_eq, nat_lt, nat_le}
+use Rattle.std.specs.Prelude.{◌≡◌, ℕ, ◌+◌, ◌-◌, ◌/◌, ◌%◌, ◌<◌, ◌≤◌, Bool, true, false, ◌&&◌, ◌⊎◌, cond, List, [], ◌∷◌, map, replicate, slice_index, slice_index_or, Option, None, Some, nat_eq, nat_lt, nat_le}
 use Rattle.std.specs.List.{find, range_with_len, sum_by}
 use Rattle.table_place.specs.declared.Place.{Place}
 use Rattle.table_place.specs.Place.{root, directory}
 use Rattle.walk_core.specs.declared.lists.PutRow.{PutRow}
 use Rattle.walk_core.specs.declared.pass.PassCore.{PassCore}
 use Rattle.walk_core.specs.declared.pass.GrantedRow.{GrantedRow}
-use Rattle.walk_core.specs.declared.pass.UnlinkedRow.{UnlinkedRow}
 use Rattle.walk_core.specs.declared.pass.SampleBounds.{SampleBounds}
 use Rattle.walk_core.specs.declared.state.RowState.{RowState}
 use Rattle.walk_core.specs.declared.state.RowState.TheVariants.{Free, Hand, Linked, Unlinked, Limbo}
-use Rattle.walk_core.specs.Words.{lock_at, position_at, generation_at, entry_at, word_count, link_word, position_word, place_shown, stale}
+use Rattle.walk_core.specs.Words.{position_at, generation_at, entry_at, word_count, link_word, position_word, place_shown, stale}
 use Rattle.walk_core.specs.Lists.{times, among}
 
 -- levels: how many levels the page tables of a space have. rows: how many rows there are. count: how many passes there are

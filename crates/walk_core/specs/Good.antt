@@ -5,7 +5,7 @@
 --     Stands      the epoch words tell who is inside, and a pass inside stands on a row that was not granted anew
 --     Samples      the numbers that were sampled of the epoch words
 --     Good      sizes, states, locks, links and stands. That samples are right is claimed once rows are used again.
-use Rattle.std.specs.Prelude.{◌≡◌, ◌≢◌, ℕ, ◌+◌, ◌*◌, ◌%◌, ◌^◌, ◌<◌, ◌≤◌, Bool, true, ◌&&◌, cond, ◌⊎◌, List, length, slice_index, slice_index_or, Option, None, Some, nat_eq, nat_lt}
+use Rattle.std.specs.Prelude.{◌≡◌, ◌≢◌, ℕ, ◌+◌, ◌*◌, ◌%◌, ◌^◌, ◌<◌, ◌≤◌, true, ◌&&◌, cond, ◌⊎◌, List, length, slice_index, slice_index_or, Option, None, Some, nat_eq, nat_lt}
 use Rattle.std.specs.List.{AllByRecursion, Contains, sum_by}
 use Rattle.table_place.specs.Place.{directory, entry_place, is_place}
 use Rattle.walk_core.specs.declared.lists.PutRow.{PutRow}

@@ -3,7 +3,7 @@
 --     Guard      when a pass that has this may do this
 --     IsAllowed      when an event may happen
 --     MaySample, MaySweep, MayPut      what a later use of rows asks
-use Rattle.std.specs.Prelude.{◌≡◌, ℕ, ◌<◌, ◌^◌, true, false, ◌⊎◌, ⊤, List, [], ◌++◌, map, Option, Some, None, IsSome}
+use Rattle.std.specs.Prelude.{◌≡◌, ℕ, ◌<◌, ◌^◌, true, false, ◌⊎◌, ⊤, List, [], ◌++◌, map, Some, None, IsSome}
 use Rattle.std.specs.List.{AllByRecursion}
 use Rattle.table_place.specs.Place.{entry_place, is_place}
 use Rattle.walk_core.specs.declared.event.Event.{Event}
@@ -47,8 +47,12 @@ MayPut c v k = ⊤
 abbrev pub put_rows : List PutRow → List ℕ
 put_rows put = map (λ k. k.row) put
 
+-- a row that the pass unlinked and marked: it holds the row no more
+abbrev pub IsMarked : PassCore → ℕ → Type 0
+IsMarked v r = Has (unlinked_rows v) r × (times r v.held ≡ 0)
+
 abbrev pub AreMarked : PassCore → List PutRow → Type 0
-AreMarked v put = (r : ℕ) → Has (put_rows put) r → Has (unlinked_rows v) r × (times r v.held ≡ 0)
+AreMarked v put = (r : ℕ) → Has (put_rows put) r → IsMarked v r
 
 -- put: rows that the pass unlinked and marked. swept: rows of limbo. taken: free rows, with those just swept
 pub record MayGive (c : Core) (v : PassCore) (put : List PutRow) (swept taken : List ℕ) : Type 0 where

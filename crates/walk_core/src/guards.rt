@@ -284,7 +284,7 @@ fn are_marked(giver: &PassRoom, put: &[PutRow]) -> bool
     ensures { IsTrue result ↔ AreMarked (pass_core giver.now) put.now }
 {
     for put in put {
-        if !giver.has_unlinked(put.row) || giver.holds(put.row) {
+        if !giver.is_marked(put.row) {
             return false;
         }
     }

@@ -10,6 +10,8 @@ mod pass;
 mod room;
 mod state;
 mod steps;
+#[cfg(test)]
+mod tests;
 mod words;
 
 pub use event::{Event, SetPart};

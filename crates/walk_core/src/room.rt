@@ -5,7 +5,7 @@ ghost use Rattle.std.specs.Vec.{vec_capacity};
 ghost use Rattle.walk_core.specs.Lists.{among, without};
 ghost use Rattle.walk_core.specs.Core as core;
 ghost use Rattle.walk_core.specs.Events as events;
-ghost use Rattle.walk_core.specs.Guards.{StandsOn, put_rows};
+ghost use Rattle.walk_core.specs.Guards.{StandsOn, IsMarked, put_rows};
 ghost use Rattle.walk_core.specs.Rooms.{pass_core, HasRoom};
 
 use crate::event::SetPart;
@@ -66,6 +66,13 @@ impl PassRoom {
         ensures { result ≡ among (core.unlinked_rows (pass_core self.now)) row }
     {
         self.unlinked.iter().any(|unlinked| unlinked.row == row)
+    }
+
+    /// Whether the pass unlinked and marked a row: then it holds the row no more.
+    pub(crate) fn is_marked(&self, row: u32) -> bool
+        ensures { IsTrue result ↔ IsMarked (pass_core self.now) row }
+    {
+        self.has_unlinked(row) && !self.holds(row)
     }
 
     /// What is known of a row that was granted.

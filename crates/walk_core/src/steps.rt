@@ -125,7 +125,8 @@ impl Core {
         ensures { self.new ≡ events.after self.old (cases.Grab pass row) }
     {
         let place = spelled::lock_at(row);
-        if self.words[place] != 0 {
+        let found = self.words[place];
+        if found != 0 {
             return;
         }
         self.words[place] = spelled::held_by(pass);
@@ -144,11 +145,12 @@ impl Core {
         requires { IsAllowed self.old (cases.Turn pass) }
         ensures { self.new ≡ events.after self.old (cases.Turn pass) }
     {
-        let place = spelled::book_at(self.rows, self.passes.len() as u8);
-        if self.words[place] != 0 {
+        let book = spelled::book_at(self.rows, self.passes.len() as u8);
+        let found = self.words[book];
+        if found != 0 {
             return;
         }
-        self.words[place] = spelled::held_by(pass);
+        self.words[book] = spelled::held_by(pass);
         self.passes[usize::from(pass)].take_book();
     }
 

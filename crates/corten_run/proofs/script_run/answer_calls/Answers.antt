@@ -1,14 +1,15 @@
 -- The call that was answered is the first of those that were left.
-use Rattle.std.proofs.Common.{◌≡◌, ◌≤◌, ◌<◌, ◌+◌, ℕ, List, [], ◌∷◌, ◌++◌, ◌∙◌, drop, length, refl, sym, ap, subst, arith}
+use Rattle.std.proofs.Common.{◌<◌, ◌+◌, [], ◌++◌, ◌∙◌, drop, length, refl, sym, ap, subst, arith}
 use Rattle.page_map.specs.State.{IsConsistent}
 use Rattle.page_map.specs.Step.{step}
 use Rattle.page_map.proofs.StepKeeps.{step_keeps}
 use Rattle.text_words.specs.Layout.{ended}
-use Rattle.history_text.specs.HistoryText.{answer_line}
+use Rattle.history_text.specs.HistoryText.{answer_line, lines_of}
 use Rattle.byte_streams.proofs.Known.{risen}
-use Rattle.corten_run.specs.Solo.{answered, state_after_calls, lines_of}
-use Rattle.corten_run.proofs.Parts.{passed_start, part_of_all, passed_of_all}
-use Rattle.corten_run.proofs.Answering.{next_of, next_line}
+use Rattle.corten_run.specs.Solo.{answered, state_after_calls}
+use Rattle.history_text.proofs.Parts.{passed_start, part_of_all, passed_of_all}
+use Rattle.history_text.proofs.Parts.{next_of}
+use Rattle.corten_run.proofs.Answering.{next_line}
 use Rattle.corten_run.proofs.script_run.answer_calls.Goals as goal
 
 pub loop-call-init : goal.loop-call-init

@@ -2,7 +2,8 @@
 use Rattle.std.proofs.Common.{◌≡◌, ◌≤◌, ℕ, List, ◌++◌, drop}
 use Rattle.page_map.specs.State.{IsConsistent}
 use Rattle.history_text.specs.Writing.{PassedOn}
-use Rattle.corten_run.specs.Solo.{answered, state_after_calls, lines_of}
+use Rattle.corten_run.specs.Solo.{answered, state_after_calls}
+use Rattle.history_text.specs.HistoryText.{lines_of}
 use Rattle.corten_run.proofs.script_run.answer_calls.Given as goal
 
 abbrev pub invariant-loop-call : goal.invariant-loop-call

@@ -1,10 +1,12 @@
 -- The thread whose calls were answered is the first of those that were left.
-use Rattle.std.proofs.Common.{◌≡◌, ◌≤◌, ◌<◌, ◌+◌, ℕ, List, [], ◌∷◌, ◌++◌, ◌∙◌, drop, length, refl, sym, ap, subst, arith}
+use Rattle.std.proofs.Common.{◌<◌, ◌+◌, [], ◌∷◌, ◌++◌, ◌∙◌, drop, length, refl, sym, ap, subst, arith}
 use Rattle.page_map.specs.State.{IsConsistent}
 use Rattle.byte_streams.proofs.Known.{risen}
-use Rattle.corten_run.specs.Solo.{answered, state_after_calls, all_answered, state_after_threads, lines_of}
-use Rattle.corten_run.proofs.Parts.{passed_start, part_of_all, passed_of_all}
-use Rattle.corten_run.proofs.Answering.{next_of, next_thread, calls_keep}
+use Rattle.corten_run.specs.Solo.{answered, all_answered, state_after_threads}
+use Rattle.history_text.specs.HistoryText.{lines_of}
+use Rattle.history_text.proofs.Parts.{passed_start, part_of_all, passed_of_all}
+use Rattle.history_text.proofs.Parts.{next_of}
+use Rattle.corten_run.proofs.Answering.{next_thread, calls_keep}
 use Rattle.corten_run.proofs.script_run.answer_threads.Goals as goal
 
 pub loop-calls-init : goal.loop-calls-init

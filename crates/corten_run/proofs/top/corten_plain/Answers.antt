@@ -1,13 +1,24 @@
 -- Other words name no command; the status is that of the ending.
-use Rattle.corten_run.specs.declared.command.Command.TheVariants.{Solo}
-use Rattle.corten_run.proofs.Told.{refused_if}
+use Rattle.corten_run.specs.declared.command.Command.TheVariants.{Solo, Check}
+use Rattle.corten_run.proofs.Told.{refused_named, judged_named, one_command}
 use Rattle.corten_run.proofs.top.corten_plain.Goals as goal
 
 pub returns-in_default-clause-complete : goal.returns-in_default-clause-complete
 returns-in_default-clause-complete g c = λ script named quiet silent. absurd (c.in_default.ensures.none Solo named)
 
+pub returns-in_default-clause-judges : goal.returns-in_default-clause-judges
+returns-in_default-clause-judges g c = λ history verdict named quiet silent. absurd (c.in_default.ensures.none Check named)
+
 pub returns-in_default-clause-refuses : goal.returns-in_default-clause-refuses
-returns-in_default-clause-refuses g c = λ named quiet. absurd (c.in_default.ensures.none Solo named)
+returns-in_default-clause-refuses g c = λ command named quiet. absurd (c.in_default.ensures.none command named)
+
+pub returns-in_default-clause-told : goal.returns-in_default-clause-told
+returns-in_default-clause-told g c = λ command named. absurd (c.in_default.ensures.none command named)
+
+pub returns-clause-judges : goal.returns-clause-judges
+returns-clause-judges g c = λ history verdict named quiet silent.
+    judged_named c.in-Some.command (one_command _ c.in-Some.command Check c.in-Some.ensures.found named) _ history verdict _ c.serve.result c.status-2.result c.status-2.ensures c.serve.ensures.told quiet silent
 
 pub returns-clause-refuses : goal.returns-clause-refuses
-returns-clause-refuses g c = λ named quiet. refused_if _ _ c.solo.result c.status-2.result c.status-2.ensures c.solo.ensures.told quiet
+returns-clause-refuses g c = λ command named quiet.
+    refused_named c.in-Some.command command (one_command _ c.in-Some.command command c.in-Some.ensures.found named) _ _ c.serve.result c.status-2.result c.status-2.ensures c.serve.ensures.told quiet

@@ -1,4 +1,4 @@
-use Rattle.std.proofs.Common.{◌≡◌, ◌<◌, ◌≤◌, ℕ, sym, ◌∙◌, subst, get_or, arith}
+use Rattle.std.proofs.Common.{ℕ, sym, ◌∙◌, subst, get_or, arith}
 use Rattle.walk_core.specs.Lists.{Has}
 use Rattle.walk_core.proofs.RowLists.{among_not, has_at, at_has}
 use Rattle.walk_core.proofs.Listed.{so, not_so}

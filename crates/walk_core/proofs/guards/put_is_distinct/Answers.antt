@@ -1,6 +1,6 @@
-use Rattle.std.proofs.Common.{◌≡◌, ◌<◌, ℕ, List, [], sym, ◌∙◌, ap, subst, take, length, get_or, arith}
+use Rattle.std.proofs.Common.{◌≡◌, ℕ, List, [], sym, ◌∙◌, ap, subst, take, get_or, arith}
 use Rattle.walk_core.specs.declared.lists.PutRow.{PutRow}
-use Rattle.walk_core.specs.Lists.{times, Has, among}
+use Rattle.walk_core.specs.Lists.{times, Has}
 use Rattle.walk_core.specs.Guards.{put_rows}
 use Rattle.walk_core.proofs.RowLists.{among_has, among_not}
 use Rattle.walk_core.proofs.Listed.{not_so, distinct_none, distinct_more, not_distinct, put_rows-take, row_at, length-put_rows}

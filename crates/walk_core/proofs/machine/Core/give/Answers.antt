@@ -1,18 +1,16 @@
 use Rattle.std.proofs.Common.{◌≡◌, ◌≤◌, ℕ, ◌++◌, List, [], false, not, map, length, set, sym, refl, ap, ◌∙◌, subst, rules, tests, append-nil}
 use Rattle.std.specs.List.{filter}
-use Rattle.std.specs.Vec.{with_item, vec_capacity}
+use Rattle.std.specs.Vec.{with_item}
 use Rattle.std.proofs.lemmas.Fn.{filter_same}
-use Rattle.walk_core.specs.declared.event.Event.{Event}
 use Rattle.walk_core.specs.declared.event.Event.TheVariants.{Give}
 use Rattle.walk_core.specs.declared.lists.PutRow.{PutRow}
 use Rattle.walk_core.specs.declared.pass.PassCore.{PassCore}
 use Rattle.walk_core.specs.declared.machine.Core.TheInside.{Inside}
 use Rattle.walk_core.specs.Words.{book_at}
 use Rattle.walk_core.specs.Lists.{among}
-use Rattle.walk_core.specs.Core.{Core, pass_at}
+use Rattle.walk_core.specs.Core.{Core}
 use Rattle.walk_core.specs.Events.{newly_granted, unlinked_after_give, after}
 use Rattle.walk_core.specs.Guards.{IsAllowed}
-use Rattle.walk_core.specs.Kept.{core_of}
 use Rattle.walk_core.proofs.Stepped.{Changes, changed, kept_on, IsRead, read_in}
 use Rattle.walk_core.proofs.Roomy.{limbo_kept, room_to_grant, room_for_put}
 use Rattle.walk_core.proofs.machine.Core.give.Goals as goal

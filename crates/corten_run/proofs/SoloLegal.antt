@@ -1,0 +1,67 @@
+-- The history that `solo` makes of a script is legal, and its accounts are right.
+use Rattle.std.proofs.Common.{◌≡◌, ℕ, ◌+◌, ◌<◌, ◌≤◌, List, [], ◌∷◌, ◌++◌, length, refl, sym, ap, subst, ◌∙◌, arith}
+use Rattle.corten_base.specs.declared.calls.Call.{Call}
+use Rattle.corten_base.specs.declared.calls.Entry.{Entry}
+use Rattle.corten_base.specs.declared.calls.Reply.{Reply}
+use Rattle.page_map.specs.State.{State, start, accounts, linked, IsConsistent}
+use Rattle.page_map.specs.Step.{step}
+use Rattle.page_map.specs.History.{IsLegal, after, limbo_of}
+use Rattle.page_map.proofs.Start.{start_is_consistent}
+use Rattle.page_map.proofs.Histories.{legal_join, after_append}
+use Rattle.mm_script.specs.declared.script.Script.{Script}
+use Rattle.mm_script.specs.ScriptText.{IsScript}
+use Rattle.history_text.specs.Checking.{AreRight, IsLegalHistory}
+use Rattle.history_text.proofs.Closings.{own_accounts}
+use Rattle.corten_run.specs.Solo.{answered, state_after_calls, all_answered, state_after_threads, solo_history}
+use Rattle.corten_run.proofs.Answering.{calls_keep}
+use Rattle.corten_run.proofs.Shown.{step_shows}
+
+-- the calls of one thread
+calls_after : (st : State) (thread : ℕ) (cs : List Call) → after st (answered st thread cs) ≡ state_after_calls st thread cs
+calls_after st thread [] = refl
+calls_after st thread (c ∷ cs) =
+    ap (λ limbo. after (step st thread c limbo).1 (answered (step st thread c 0).1 thread cs)) (step_shows st thread c)
+    ∙ calls_after (step st thread c 0).1 thread cs
+
+calls_legal : (st : State) (thread : ℕ) (cs : List Call) → thread < 8 → IsConsistent st → IsLegal st (answered st thread cs)
+calls_legal st thread [] few ok = tt
+calls_legal st thread (c ∷ cs) few ok =
+    let r : Reply = (step st thread c 0).0 in
+    let none : limbo_of r ≡ 0 = step_shows st thread c in
+    let tables : linked st ≤ st.limits.tables = ok.tables in (
+      subst (λ n. linked st + n ≤ st.limits.tables) (sym none) (omega (arith, tables)),
+      ap (λ n. (step st thread c n).0) (sym none),
+      subst (λ n. IsLegal (step st thread c n).1 (answered (step st thread c 0).1 thread cs)) (sym none)
+          (calls_legal (step st thread c 0).1 thread cs few (calls_keep st thread (c ∷ []) few ok)),
+    )
+
+-- those of all threads
+threads_after : (st : State) (thread : ℕ) (ts : List (List Call)) → after st (all_answered st thread ts) ≡ state_after_threads st thread ts
+threads_after st thread [] = refl
+threads_after st thread (cs ∷ ts) =
+    after_append st (answered st thread cs) (all_answered (state_after_calls st thread cs) (thread + 1) ts)
+    ∙ ap (λ s. after s (all_answered (state_after_calls st thread cs) (thread + 1) ts)) (calls_after st thread cs)
+    ∙ threads_after (state_after_calls st thread cs) (thread + 1) ts
+
+threads_legal : (st : State) (thread : ℕ) (ts : List (List Call)) → thread + length ts ≤ 8 → IsConsistent st → IsLegal st (all_answered st thread ts)
+threads_legal st thread [] few ok = tt
+threads_legal st thread (cs ∷ ts) few ok =
+    let here : thread < 8 = omega (arith, few) in
+    legal_join st (answered st thread cs) (all_answered (state_after_calls st thread cs) (thread + 1) ts) (calls_legal st thread cs here ok)
+    (subst (λ s. IsLegal s (all_answered (state_after_calls st thread cs) (thread + 1) ts)) (sym (calls_after st thread cs))
+    (threads_legal (state_after_calls st thread cs) (thread + 1) ts (omega (arith, few)) (calls_keep st thread cs here ok)))
+
+threads_keep : (st : State) (thread : ℕ) (ts : List (List Call)) → thread + length ts ≤ 8 → IsConsistent st → IsConsistent (state_after_threads st thread ts)
+threads_keep st thread [] few ok = ok
+threads_keep st thread (cs ∷ ts) few ok = threads_keep (state_after_calls st thread cs) (thread + 1) ts (omega (arith, few)) (calls_keep st thread cs (omega (arith, few)) ok)
+
+pub solo_is_legal : (script : Script) → IsScript script → IsLegalHistory (solo_history script)
+solo_is_legal script h =
+    let st : State = start script.limits [] in
+    let ok : IsConsistent st = start_is_consistent script.limits [] h.limits.tables.0 in
+    let few : 0 + length script.threads ≤ 8 = omega (arith, h.threads.count) in
+    record {
+      entries = threads_legal st 0 script.threads few ok;
+      accounts = subst (λ s. AreRight s (accounts (state_after_threads st 0 script.threads) 0)) (sym (threads_after st 0 script.threads))
+          (own_accounts (state_after_threads st 0 script.threads) (threads_keep st 0 script.threads few ok));
+    }

@@ -1,0 +1,19 @@
+-- The command is the one that was served.
+use Rattle.std.proofs.Common.{Some, [], sym, subst}
+use Rattle.corten_run.specs.Endings.{Sides, CommandEnds}
+use Rattle.corten_run.proofs.answers.answer.Goals as goal
+
+pub returns-in-Check-clause-ends : goal.returns-in-Check-clause-ends
+returns-in-Check-clause-ends g c =
+    let held = g.K.Sink.held in
+    let faults = g.K.Sink.faults in
+    let sides : Sides = record {
+      left_now = Some [];
+      read_faults = 0;
+      read_faults_now = 0;
+      held = held c.args.sink.now;
+      held_now = held c.answer_history.new.sink;
+      write_faults = faults c.args.sink.now;
+      write_faults_now = faults c.answer_history.new.sink;
+    } in
+    subst (λ k. CommandEnds k c.args.bytes.now sides c.answer_history.result) (sym c.in-Check.is) c.answer_history.ensures.ends

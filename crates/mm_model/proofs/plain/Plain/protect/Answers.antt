@@ -1,0 +1,143 @@
+use Rattle.std.proofs.Common.{◌≡◌, ℕ, ◌+◌, ◌*◌, ◌/◌, ◌≤◌, ◌<◌, ◌^◌, true, false, [], Some, None, refl, sym, ap, subst, ◌∙◌, arith}
+use Rattle.std.specs.Prelude.{Option, IsSome, is_none, nat_le, nat_lt}
+use Rattle.std.specs.Option.{OnSome, option_map}
+use Rattle.std.specs.FinMap as map
+use Rattle.std.proofs.lemmas.Bool.{ltb-true, and_parts}
+use Rattle.corten_base.specs.declared.calls.Call.TheVariants as call
+use Rattle.corten_base.specs.declared.calls.Reply.TheVariants as reply
+use Rattle.corten_base.specs.declared.calls.TxnOp.TheVariants as op
+use Rattle.corten_base.specs.declared.calls.Why.TheVariants as why
+use Rattle.corten_base.specs.declared.permissions.Perm.{Perm}
+use Rattle.table_place.specs.Place.{is_page_range, pages_of}
+use Rattle.page_map.specs.Cell.{frame_of, slot_of, with_perm}
+use Rattle.page_map.specs.Change.{change, least}
+use Rattle.page_map.specs.Mapping.{refused_op, after_op}
+use Rattle.page_map.specs.State.{State, AddressSpace, linked}
+use Rattle.page_map.specs.Tables.{Tables, changed_tables}
+use Rattle.page_map.specs.Step.{step}
+use Rattle.page_map.proofs.Least.{least_passes}
+use Rattle.plain_spaces.proofs.Moves.{put_back}
+use Rattle.plain_spaces.specs.Fronts.{AreFull}
+use Rattle.plain_spaces.specs.Reach.{Follows}
+use Rattle.plain_spaces.proofs.Followed.{protected_stay, protected_slots_stay}
+use Rattle.mm_model.specs.Plain.{IsSound}
+use Rattle.mm_model.proofs.AccessSteps.{no_need, same_tables}
+use Rattle.mm_model.proofs.Full.{full_stays, change_stays}
+use Rattle.mm_model.proofs.OpSteps.{protect_op, missing}
+use Rattle.mm_model.proofs.OpCalls.{no_range, wrong, absent, stopped, step_is, op_stays_sound, named}
+use Rattle.mm_model.proofs.plain.Plain.protect.Goals as goal
+use Rattle.mm_model.proofs.plain.Plain.protect.Goals.{After-get_mut, After-hole, After-protect}
+
+pub returns-in_default : goal.returns-in_default
+returns-in_default c = λ thread limbo legal.
+    wrong c.args.self.now (call.Protect c.args.space c.args.at c.args.len c.args.perm) c.args.space _ _ _ _ (protect_op c.args.self.now c.args.space c.args.at c.args.len c.args.perm) thread limbo
+    (no_range (is_page_range 4 c.args.at c.args.len) c.in_default.ensures.some.1)
+
+-- the state that the machine had
+abbrev before : After-get_mut → State
+before c = record { spaces = c.self.inside.spaces; tables = c.self.inside.tables; limits = c.self.inside.limits; files = c.self.inside.shelf }
+
+-- the range is right
+abbrev right : (c : After-get_mut) → is_page_range 4 c.args.at c.args.len ≡ true
+right c = c.in-Some.ensures.some.0 refl
+
+pub returns-in_default-get_mut : goal.returns-in_default-get_mut
+returns-in_default-get_mut c =
+    let at = (goal.at.returns-in_default-get_mut c).After-get_mut in
+    named (before at) c.args.self.now c.self.view_is c.number.result c.args.space c.number.ensures.value (λ n. call.Protect n c.args.at c.args.len c.args.perm) reply.NoSpace _
+    (λ thread limbo legal. (λ i. (reply.NoSpace, record (before at) { spaces = c.get_mut.follows.holds-at-none i }))
+    ∙ absent (before at) (call.Protect c.number.result c.args.at c.args.len c.args.perm) c.number.result _ _ _ _ (protect_op (before at) c.number.result c.args.at c.args.len c.args.perm) thread limbo (right at) (sym c.in_default-get_mut.ensures.value))
+
+abbrev first_is : (c : After-hole) → c.first-first.result ≡ c.args.at / 4096
+first_is c = c.first-first.ensures.value ∙ ap (λ r. r.first) c.in-Some.ensures.value
+
+abbrev count_is : (c : After-hole) → c.count-count.result ≡ pages_of c.args.len
+count_is c = c.count-count.ensures.value ∙ ap (λ r. r.count) c.in-Some.ensures.value
+
+-- the first page without a cell, in the words of the definitions
+abbrev holes_are : (c : After-hole) → c.hole.result ≡ least (c.args.at / 4096) (pages_of c.args.len) (λ page. is_none (map.get c.in-Some-get_mut.cells.now page))
+holes_are c = c.hole.ensures ∙ (λ i. least (first_is c i) (count_is c i) (λ page. is_none (map.get c.in-Some-get_mut.cells.now page)))
+
+pub overflow_mul-result : goal.overflow_mul-result
+overflow_mul-result c =
+    let user = c.first-first.ensures.user.user in
+    let below = ltb-true (c.in-Some.range.first + c.in-Some.range.count) (2 ^ 35) (and_parts (nat_le 16 c.in-Some.range.first) (nat_lt (c.in-Some.range.first + c.in-Some.range.count) (2 ^ 35)) user).1 in
+    let at = least_passes c.first-first.result c.count-count.result (λ page. is_none (map.get c.in-Some-get_mut.cells.now page)) c.in-Some-hole.hole (sym c.in-Some-hole.ensures) in
+    omega (arith, at.1, below, c.first-first.ensures.value, c.count-count.ensures.value)
+
+-- the cells as they were
+abbrev same : (c : After-hole) → c.get_mut.follows.lender c.in-Some-get_mut.cells.now ≡ c.self.inside.spaces
+same c =
+    subst (λ o. OnSome o (c.get_mut.follows.lender c.in-Some-get_mut.cells.now ≡ map.insert c.self.inside.spaces c.number.result c.in-Some-get_mut.cells.now)) c.in-Some-get_mut.is (c.get_mut.follows.holds c.in-Some-get_mut.cells.now)
+    ∙ put_back c.self.inside.spaces c.number.result c.in-Some-get_mut.cells.now (sym c.in-Some-get_mut.ensures.value)
+
+pub invariant_of-self-in-Some-hole : goal.invariant_of-self-in-Some-hole
+invariant_of-self-in-Some-hole c =
+    let at = goal.at.invariant_of-self-in-Some-hole c in
+    subst (λ spaces. IsSound (record (before at.After-get_mut) { spaces = spaces }) c.self.inside.frames c.self.inside.slots c.self.inside.fronts) (sym (same at.After-hole)) c.self.invariant
+
+pub returns-in-Some-hole : goal.returns-in-Some-hole
+returns-in-Some-hole c =
+    let at = goal.at.returns-in-Some-hole c in
+    let st = before at.After-get_mut in
+    let n = c.number.result in
+    named st c.args.self.now c.self.view_is n c.args.space c.number.ensures.value (λ n. call.Protect n c.args.at c.args.len c.args.perm) (reply.Hole (4096 * c.in-Some-hole.hole)) _
+    (λ thread limbo legal. (λ i. (reply.Hole (4096 * c.in-Some-hole.hole), record st { spaces = same at.After-hole i }))
+    ∙ stopped st (call.Protect n c.args.at c.args.len c.args.perm) n _ _ _ _ (protect_op st n c.args.at c.args.len c.args.perm) thread limbo (right at.After-get_mut)
+    c.in-Some-get_mut.cells.now (sym c.in-Some-get_mut.ensures.value) (why.Hole (4096 * c.in-Some-hole.hole))
+    (ap (option_map (λ page. why.Hole (4096 * page))) (sym (holes_are at.After-hole) ∙ c.in-Some-hole.is)))
+
+-- the spaces and the cells afterwards
+abbrev lent : (c : After-protect) → c.get_mut.follows.lender c.protect.new.self ≡ map.insert c.self.inside.spaces c.number.result c.protect.new.self
+lent c = subst (λ o. OnSome o (c.get_mut.follows.lender c.protect.new.self ≡ map.insert c.self.inside.spaces c.number.result c.protect.new.self)) c.in-Some-get_mut.is (c.get_mut.follows.holds c.protect.new.self)
+
+abbrev first_here : (c : After-protect) → c.first-first.result ≡ c.args.at / 4096
+first_here c = c.first-first.ensures.value ∙ ap (λ r. r.first) c.in-Some.ensures.value
+
+abbrev count_here : (c : After-protect) → c.count-count.result ≡ pages_of c.args.len
+count_here c = c.count-count.ensures.value ∙ ap (λ r. r.count) c.in-Some.ensures.value
+
+cells_are : (c : After-protect) → c.protect.new.self ≡ after_op (op.Protect c.args.at c.args.len c.args.perm) c.in-Some-get_mut.cells.now
+unfolding after_op
+cells_are c = c.protect.ensures ∙ (λ i. change c.in-Some-get_mut.cells.now (first_here c i) (count_here c i) (λ _. option_map (with_perm c.args.perm)))
+
+allowed : (c : After-protect) → refused_op (op.Protect c.args.at c.args.len c.args.perm) c.in-Some-get_mut.cells.now ≡ None
+allowed c = ap (option_map (λ page. why.Hole (4096 * page)))
+    (sym (c.hole.ensures ∙ (λ i. least (first_here c i) (count_here c i) (λ page. is_none (map.get c.in-Some-get_mut.cells.now page)))) ∙ c.in_default-hole.is)
+
+-- no table is wanted
+fits : (st : State) (space at len limbo : ℕ) (perm : Perm) → linked st + limbo ≤ st.limits.tables → linked st + missing st (call.Protect space at len perm) space (op.Protect at len perm) _ _ _ (protect_op st space at len perm) + limbo ≤ st.limits.tables
+fits st space at len limbo perm legal = omega (arith, no_need [] refl st.tables, legal)
+
+-- the same tables
+tables_are : (tables : Tables) → tables ≡ changed_tables (λ _. false) [] tables
+tables_are tables = sym (same_tables (λ _. false) (λ _. refl) [] refl tables)
+
+pub invariant_of-self-2 : goal.invariant_of-self-2
+invariant_of-self-2 c =
+    let at = goal.at.invariant_of-self-2 c in
+    let st = before at.After-get_mut in
+    let n = c.number.result in
+    let cells = c.in-Some-get_mut.cells.now in
+    let first = c.first-first.result in
+    let count = c.count-count.result in
+    let here = sym c.in-Some-get_mut.ensures.value in
+    let is = sym c.protect.ensures in
+    let full = full_stays st n cells c.protect.new.self c.self.inside.tables c.self.inside.fronts here
+    (λ q there. subst (λ m. IsSome (map.get m q)) is (change_stays cells first count (λ _. option_map (with_perm c.args.perm)) (λ _ _. refl) q there)) c.self.invariant.full in
+    subst (λ spaces. IsSound (record st { spaces = spaces }) c.self.inside.frames c.self.inside.slots c.self.inside.fronts) (sym (lent at.After-protect))
+    (op_stays_sound st (call.Protect n c.args.at c.args.len c.args.perm) n (op.Protect c.args.at c.args.len c.args.perm) _ _ _ (protect_op st n c.args.at c.args.len c.args.perm) (right at.After-get_mut) cells here (allowed at.After-protect)
+    c.protect.new.self c.self.inside.tables (cells_are at.After-protect) (tables_are c.self.inside.tables) c.self.inside.frames c.self.inside.slots c.self.inside.fronts c.self.inside.frames c.self.inside.slots c.self.inside.fronts c.self.invariant
+    0 (fits st n c.args.at c.args.len 0 c.args.perm (omega (arith, c.self.invariant.state.tables)))
+    (subst (Follows None frame_of c.self.inside.frames c.self.inside.frames cells) is (protected_stay c.self.inside.frames cells first count c.args.perm))
+    (subst (Follows None slot_of c.self.inside.slots c.self.inside.slots cells) is (protected_slots_stay c.self.inside.slots cells first count c.args.perm)) full)
+
+pub returns : goal.returns
+returns c =
+    let at = goal.at.returns c in
+    let st = before at.After-get_mut in
+    let n = c.number.result in
+    named st c.args.self.now c.self.view_is n c.args.space c.number.ensures.value (λ n. call.Protect n c.args.at c.args.len c.args.perm) reply.Ok _
+    (λ thread limbo legal. (λ i. (reply.Ok, record st { spaces = lent at.After-protect i }))
+    ∙ step_is st (call.Protect n c.args.at c.args.len c.args.perm) n (op.Protect c.args.at c.args.len c.args.perm) _ _ _ (protect_op st n c.args.at c.args.len c.args.perm) (right at.After-get_mut) c.in-Some-get_mut.cells.now (sym c.in-Some-get_mut.ensures.value) (allowed at.After-protect)
+    c.protect.new.self c.self.inside.tables (cells_are at.After-protect) (tables_are c.self.inside.tables) thread limbo (fits st n c.args.at c.args.len limbo c.args.perm legal))

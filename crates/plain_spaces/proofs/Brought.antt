@@ -1,0 +1,226 @@
+-- The cells after the pages of an access got their frames.
+use Rattle.std.proofs.Common.{◌≡◌, ℕ, ◌+◌, ◌<◌, ◌≤◌, Bool, true, false, cond, ◌||◌, List, [], ◌∷◌, ◌++◌, length, refl, sym, ap, subst, ◌∙◌, arith}
+use mathlib.Core.Logic.{◌⊎◌, inl, inr}
+use Rattle.std.specs.Prelude.{Option, Some, None, IsSome, IfSome, IfNone, is_some, nat_eq}
+use Rattle.std.specs.Option.{option_map}
+use Rattle.std.specs.List.{zip}
+use Rattle.std.specs.Cmp.{unsigned_tied, nat_eq_equiv}
+use Rattle.std.proofs.lemmas.Bool.{cases_eq, eq-eqb, ne_eqb, cond-true, cond-false, false≢true}
+use Rattle.std.specs.FinMap.{get}
+use Rattle.table_place.specs.Range.{within}
+use Rattle.page_map.specs.declared.cell.Cell.{Cell}
+use Rattle.page_map.specs.declared.cell.Cell.TheVariants.{Anon, File, Mapped, Swapped}
+use Rattle.page_map.specs.Change.{change}
+use Rattle.page_map.specs.State.{AddressSpace}
+use Rattle.page_map.specs.Takes.{Grant, grant, granted}
+use Rattle.page_map.specs.Access.{Access, first_page, page_count}
+use Rattle.page_map.proofs.Range.{inside, outside, get-change, change_is}
+use Rattle.page_map.proofs.Owners.{same_some}
+use Rattle.plain_spaces.specs.Reach.{last_page, beyond, given, brought}
+use Rattle.plain_spaces.specs.Wants.{want_of, is_wanting, Suits}
+use Rattle.plain_spaces.specs.declared.plan.Want.{Want}
+use Rattle.plain_spaces.specs.declared.plan.Want.TheVariants.{Nothing, Frame}
+use Rattle.plain_spaces.proofs.Reach.{one_or_two}
+
+-- what a page wants suits it
+want_suits : (files : List (List ℕ)) (owners : ℕ → ℕ) (write : Bool) (cell : Cell) → Suits cell (want_of owners write cell)
+want_suits files owners write (Mapped perm frame bytes) = go _
+  where
+    go : (b : Bool) → Suits (Mapped perm frame bytes) (cond b Frame Nothing)
+    go true = tt
+    go false = tt
+want_suits files owners write (Anon perm) = refl
+want_suits files owners write (File perm file index) = refl
+want_suits files owners write (Swapped perm slot bytes) = tt
+
+module _ (files : List (List ℕ)) (owners : ℕ → ℕ) (write : Bool) where
+  pub wanted_there : (o : Option Cell) (want : Want) → option_map (want_of owners write) o ≡ Some want → IsSome o
+  wanted_there None want e = absurd (none e)
+    where
+      none : ◌≡◌ {A = Option Want} None (Some want) → ⊥
+      none h = cc
+  wanted_there (Some cell) want e = refl
+
+  pub wanted_suits : (o : Option Cell) (want : Want) → option_map (want_of owners write) o ≡ Some want → IfSome o (λ cell. Suits cell want)
+  wanted_suits None want e = tt
+  wanted_suits (Some cell) want e = subst (Suits cell) (same_some e) (want_suits files owners write cell)
+
+-- the last page has a cell, where it is not the first
+pub last_there : (files : List (List ℕ)) (cells : AddressSpace) (owners : ℕ → ℕ) (a : Access) (far : Want) → beyond a (Some Nothing) (option_map (want_of owners a.write) (get cells (last_page a))) ≡ Some far →
+    (last_page a ≡ first_page a → ⊥) → IsSome (get cells (last_page a))
+last_there files cells owners a far e f =
+    wanted_there files owners a.write (get cells (last_page a)) far
+    (sym (cond-false _ (Some Nothing) (option_map (want_of owners a.write) (get cells (last_page a))) (ne_eqb (last_page a) (first_page a) f)) ∙ e)
+
+pub within_one : (k q : ℕ) → within k 1 q ≡ nat_eq q k
+within_one k q = go (within k 1 q) refl
+  where
+    go : (b : Bool) → within k 1 q ≡ b → b ≡ nat_eq q k
+    go true h = sym (eq-eqb q k (omega (arith, (inside k 1 q h).0, (inside k 1 q h).1)))
+    go false h = sym (ne_eqb q k (λ e. outside k 1 q h (omega (arith, e)) (omega (arith, e))))
+
+pub within_two : (k q : ℕ) → within k 2 q ≡ (nat_eq q k || nat_eq q (k + 1))
+within_two k q = go (cases_eq q k) (cases_eq q (k + 1)) (within k 2 q) refl
+  where
+    go : (q ≡ k) ⊎ (q ≡ k → ⊥) → (q ≡ k + 1) ⊎ (q ≡ k + 1 → ⊥) → (b : Bool) → within k 2 q ≡ b → b ≡ (nat_eq q k || nat_eq q (k + 1))
+    go (inl e) r true h = sym (ap (λ b. b || nat_eq q (k + 1)) (eq-eqb q k e))
+    go (inl e) r false h = absurd (outside k 2 q h (omega (arith, e)) (omega (arith, e)))
+    go (inr f) (inl e) true h = sym (λ i. ne_eqb q k f i || eq-eqb q (k + 1) e i)
+    go (inr f) (inl e) false h = absurd (outside k 2 q h (omega (arith, e)) (omega (arith, e)))
+    go (inr f) (inr g) true h = absurd (omega (arith, f, g, (inside k 2 q h).0, (inside k 2 q h).1))
+    go (inr f) (inr g) false h = sym (λ i. ne_eqb q k f i || ne_eqb q (k + 1) g i)
+
+twice : (files : List (List ℕ)) (frame : Option ℕ) (o : Option Cell) → option_map (given files None) (option_map (given files frame) o) ≡ option_map (given files frame) o
+twice files frame None = refl
+twice files frame (Some cell) = refl
+
+module _ (files : List (List ℕ)) (cells : AddressSpace) (owners : ℕ → ℕ) (a : Access) (some : 0 < a.len) (few : a.len ≤ 4096) (near far : Want) (first last : Option ℕ)
+    (far_is : beyond a (Some Nothing) (option_map (want_of owners a.write) (get cells (last_page a))) ≡ Some far) where
+  abbrev settled : AddressSpace
+  settled = change cells (first_page a) 1 (λ _. option_map (given files first))
+
+  settled_at : (q : ℕ) → get settled q ≡ cond (nat_eq q (first_page a)) (option_map (given files first) (get cells q)) (get cells q)
+  settled_at q = get-change cells (first_page a) 1 (λ _. option_map (given files first)) q ∙ ap (λ b. cond b (option_map (given files first) (get cells q)) (get cells q)) (within_one (first_page a) q)
+
+  settled_same : last_page a ≡ first_page a → get settled (last_page a) ≡ option_map (given files first) (get cells (first_page a))
+  settled_same e = settled_at (last_page a) ∙ cond-true _ _ _ (eq-eqb (last_page a) (first_page a) e) ∙ ap (λ q. option_map (given files first) (get cells q)) e
+
+  settled_next : (last_page a ≡ first_page a → ⊥) → get settled (last_page a) ≡ get cells (last_page a)
+  settled_next f = settled_at (last_page a) ∙ cond-false _ _ _ (ne_eqb (last_page a) (first_page a) f)
+
+  pub far_nothing : last_page a ≡ first_page a → far ≡ Nothing
+  far_nothing e = sym (same_some (sym (cond-true _ (Some Nothing) (option_map (want_of owners a.write) (get cells (last_page a))) (eq-eqb (last_page a) (first_page a) e)) ∙ far_is))
+
+  far_wanted : (last_page a ≡ first_page a → ⊥) → option_map (want_of owners a.write) (get cells (last_page a)) ≡ Some far
+  far_wanted f = sym (cond-false _ (Some Nothing) (option_map (want_of owners a.write) (get cells (last_page a))) (ne_eqb (last_page a) (first_page a) f)) ∙ far_is
+
+  -- what the last page is once the first has moved
+  pub far_there : IsSome (get cells (first_page a)) → IsSome (get settled (last_page a))
+  far_there there = go (cases_eq (last_page a) (first_page a))
+    where
+      moved : (o : Option Cell) → IsSome o → IsSome (option_map (given files first) o)
+      moved None h = h
+      moved (Some cell) h = refl
+
+      go : (last_page a ≡ first_page a) ⊎ (last_page a ≡ first_page a → ⊥) → IsSome (get settled (last_page a))
+      go (inl e) = subst (λ o. IsSome o) (sym (settled_same e)) (moved (get cells (first_page a)) there)
+      go (inr f) = subst (λ o. IsSome o) (sym (settled_next f)) (wanted_there files owners a.write (get cells (last_page a)) far (far_wanted f))
+
+  pub far_suits : IfSome (get settled (last_page a)) (λ cell. Suits cell far)
+  far_suits = go (cases_eq (last_page a) (first_page a))
+    where
+      moved : (o : Option Cell) → IfSome (option_map (given files first) o) (λ cell. Suits cell Nothing)
+      moved None = tt
+      moved (Some cell) = tt
+
+      go : (last_page a ≡ first_page a) ⊎ (last_page a ≡ first_page a → ⊥) → IfSome (get settled (last_page a)) (λ cell. Suits cell far)
+      go (inl e) = subst (λ o. IfSome o (λ cell. Suits cell far)) (sym (settled_same e)) (subst (λ w. IfSome (option_map (given files first) (get cells (first_page a))) (λ cell. Suits cell w)) (sym (far_nothing e)) (moved (get cells (first_page a))))
+      go (inr f) = subst (λ o. IfSome o (λ cell. Suits cell far)) (sym (settled_next f)) (wanted_suits files owners a.write (get cells (last_page a)) far (far_wanted f))
+
+  -- both pages have moved to the frames that were granted
+  pub both_settled : (grants : Grant) → granted grants (first_page a) ≡ first → ((last_page a ≡ first_page a → ⊥) → granted grants (last_page a) ≡ last) → is_some last ≡ is_wanting far →
+      change settled (last_page a) 1 (λ _. option_map (given files last)) ≡ brought files grants a cells
+  both_settled grants g h w = change_is cells (first_page a) (page_count a) (λ page. option_map (given files (granted grants page))) _ (λ q. at q (one_or_two a some few))
+    where
+      new : ℕ → Option Cell
+      new q = option_map (given files (granted grants q)) (get cells q)
+
+      last_none : last_page a ≡ first_page a → last ≡ None
+      last_none e = none last (w ∙ ap is_wanting (far_nothing e))
+        where
+          none : (o : Option ℕ) → is_some o ≡ false → o ≡ None
+          none None h = refl
+          none (Some n) h = absurd (false≢true (sym h))
+
+      left : (q : ℕ) → get (change settled (last_page a) 1 (λ _. option_map (given files last))) q ≡ cond (nat_eq q (last_page a)) (option_map (given files last) (get settled q)) (get settled q)
+      left q = get-change settled (last_page a) 1 (λ _. option_map (given files last)) q ∙ ap (λ b. cond b (option_map (given files last) (get settled q)) (get settled q)) (within_one (last_page a) q)
+
+      at : (q : ℕ) → ((last_page a ≡ first_page a) × (page_count a ≡ 1)) ⊎ ((last_page a ≡ first_page a + 1) × (page_count a ≡ 2)) →
+          get (change settled (last_page a) 1 (λ _. option_map (given files last))) q ≡ cond (within (first_page a) (page_count a) q) (new q) (get cells q)
+      at q (inl e) = left q ∙ go (cases_eq q (first_page a)) ∙ ap (λ b. cond b (new q) (get cells q)) (sym (ap (λ n. within (first_page a) n q) e.1 ∙ within_one (first_page a) q))
+        where
+          go : (q ≡ first_page a) ⊎ (q ≡ first_page a → ⊥) → cond (nat_eq q (last_page a)) (option_map (given files last) (get settled q)) (get settled q) ≡ cond (nat_eq q (first_page a)) (new q) (get cells q)
+          go (inl s) =
+              cond-true _ _ _ (eq-eqb q (last_page a) (s ∙ sym e.0))
+              ∙ (λ i. option_map (given files (last_none e.0 i)) ((settled_at q ∙ cond-true _ _ _ (eq-eqb q (first_page a) s)) i))
+              ∙ twice files first (get cells q)
+              ∙ ap (λ o. option_map (given files o) (get cells q)) (sym g ∙ ap (granted grants) (sym s))
+              ∙ sym (cond-true _ _ _ (eq-eqb q (first_page a) s))
+          go (inr f) =
+              cond-false _ _ _ (ne_eqb q (last_page a) (λ s. f (s ∙ e.0)))
+              ∙ settled_at q ∙ cond-false _ _ _ (ne_eqb q (first_page a) f)
+              ∙ sym (cond-false _ _ _ (ne_eqb q (first_page a) f))
+      at q (inr e) = left q ∙ go (cases_eq q (first_page a)) (cases_eq q (last_page a)) ∙ ap (λ b. cond b (new q) (get cells q)) (sym (ap (λ n. within (first_page a) n q) e.1 ∙ within_two (first_page a) q ∙ ap (λ k. nat_eq q (first_page a) || nat_eq q k) (sym e.0)))
+        where
+          apart : last_page a ≡ first_page a → ⊥
+          apart s = omega (arith, e.0, s)
+
+          go : (q ≡ first_page a) ⊎ (q ≡ first_page a → ⊥) → (q ≡ last_page a) ⊎ (q ≡ last_page a → ⊥) →
+              cond (nat_eq q (last_page a)) (option_map (given files last) (get settled q)) (get settled q) ≡ cond (nat_eq q (first_page a) || nat_eq q (last_page a)) (new q) (get cells q)
+          go (inl s) (inl t) = absurd (apart (sym t ∙ s))
+          go (inl s) (inr t) =
+              cond-false _ _ _ (ne_eqb q (last_page a) t)
+              ∙ settled_at q ∙ cond-true _ _ _ (eq-eqb q (first_page a) s)
+              ∙ ap (λ o. option_map (given files o) (get cells q)) (sym g ∙ ap (granted grants) (sym s))
+              ∙ sym (cond-true (nat_eq q (first_page a) || nat_eq q (last_page a)) (new q) (get cells q) (ap (λ b. b || nat_eq q (last_page a)) (eq-eqb q (first_page a) s)))
+          go (inr f) (inl t) =
+              cond-true _ _ _ (eq-eqb q (last_page a) t)
+              ∙ ap (option_map (given files last)) (settled_at q ∙ cond-false _ _ _ (ne_eqb q (first_page a) f))
+              ∙ ap (λ o. option_map (given files o) (get cells q)) (sym (h apart) ∙ ap (granted grants) (sym t))
+              ∙ sym (cond-true (nat_eq q (first_page a) || nat_eq q (last_page a)) (new q) (get cells q) (λ i. ne_eqb q (first_page a) f i || eq-eqb q (last_page a) t i))
+          go (inr f) (inr t) =
+              cond-false _ _ _ (ne_eqb q (last_page a) t)
+              ∙ settled_at q ∙ cond-false _ _ _ (ne_eqb q (first_page a) f)
+              ∙ sym (cond-false (nat_eq q (first_page a) || nat_eq q (last_page a)) (new q) (get cells q) (λ i. ne_eqb q (first_page a) f i || ne_eqb q (last_page a) t i))
+
+-- Numbers that were taken one after another from the unused ones are those that are granted.
+at_head : (k n : ℕ) (rest : List (ℕ × ℕ)) → granted ((k, n) ∷ rest) k ≡ Some n
+at_head k n rest = ap (λ b. cond b (Some n) (granted rest k)) (unsigned_tied k k ∙ nat_eq_equiv.refl k)
+
+past_head : (k j n : ℕ) (rest : List (ℕ × ℕ)) → (j ≡ k → ⊥) → granted ((k, n) ∷ rest) j ≡ granted rest j
+past_head k j n rest f = ap (λ b. cond b (Some n) (granted rest j)) (unsigned_tied j k ∙ ne_eqb j k f)
+
+abbrev pub two_pages : ℕ → ℕ → Bool → Bool → List ℕ
+two_pages p q near far = cond near (p ∷ []) [] ++ cond far (q ∷ []) []
+
+-- what the last page gets from the numbers that are left
+last_gets : (q : ℕ) (far : Bool) (last : Option ℕ) (v w : List ℕ) → is_some last ≡ far → IfSome last (λ n. v ≡ n ∷ w) → granted (zip (cond far (q ∷ []) []) v) q ≡ last
+last_gets q true (Some n) v w t e = ap (λ l. granted (zip (q ∷ []) l) q) e ∙ at_head q n (zip [] w)
+last_gets q false None v w t e = refl
+last_gets q true None v w t e = absurd (false≢true t)
+last_gets q false (Some n) v w t e = absurd (false≢true (sym t))
+
+pub granted_first : (p q : ℕ) (near far : Bool) (first last : Option ℕ) (u v w : List ℕ) → is_some first ≡ near → is_some last ≡ far → (q ≡ p → far ≡ false) →
+    IfSome first (λ n. u ≡ n ∷ v) → IfNone first (v ≡ u) → IfSome last (λ n. v ≡ n ∷ w) → granted (grant (two_pages p q near far) u) p ≡ first
+granted_first p q true far (Some n) last u v w s t one taken kept then = ap (λ l. granted (zip (p ∷ cond far (q ∷ []) []) l) p) taken ∙ at_head p n (zip (cond far (q ∷ []) []) v)
+granted_first p q false false None last u v w s t one taken kept then = refl
+granted_first p q false true None (Some m) u v w s t one taken kept then =
+    ap (λ l. granted (zip (q ∷ []) l) p) (sym kept ∙ then) ∙ past_head q p m (zip [] w) (λ e. false≢true (sym (one (sym e))))
+granted_first p q false true None None u v w s t one taken kept then = absurd (false≢true t)
+granted_first p q true far None last u v w s t one taken kept then = absurd (false≢true s)
+granted_first p q false far (Some n) last u v w s t one taken kept then = absurd (false≢true (sym s))
+
+pub granted_last : (p q : ℕ) (near far : Bool) (first last : Option ℕ) (u v w : List ℕ) → is_some first ≡ near → is_some last ≡ far → (q ≡ p → ⊥) →
+    IfSome first (λ n. u ≡ n ∷ v) → IfNone first (v ≡ u) → IfSome last (λ n. v ≡ n ∷ w) → granted (grant (two_pages p q near far) u) q ≡ last
+granted_last p q true far (Some n) last u v w s t f taken kept then =
+    ap (λ l. granted (zip (p ∷ cond far (q ∷ []) []) l) q) taken ∙ past_head p q n (zip (cond far (q ∷ []) []) v) f ∙ last_gets q far last v w t then
+granted_last p q false far None last u v w s t f taken kept then = ap (λ l. granted (zip (cond far (q ∷ []) []) l) q) (sym kept) ∙ last_gets q far last v w t then
+granted_last p q true far None last u v w s t f taken kept then = absurd (false≢true s)
+granted_last p q false far (Some n) last u v w s t f taken kept then = absurd (false≢true (sym s))
+
+-- there is a number for the first page, and once it has taken one there is one for the last
+pub enough_near : (near far : Bool) (n : ℕ) → cond near 1 0 + cond far 1 0 ≤ n → near ≡ true → 0 < n
+enough_near true far n enough e = omega (arith, enough)
+enough_near false far n enough e = absurd (false≢true e)
+
+pub enough_far : (near far : Bool) (first : Option ℕ) (u v : List ℕ) → is_some first ≡ near → IfSome first (λ n. u ≡ n ∷ v) → IfNone first (v ≡ u) → cond near 1 0 + cond far 1 0 ≤ length u → far ≡ true → 0 < length v
+enough_far near false first u v s taken kept enough e = absurd (false≢true e)
+enough_far true true (Some n) u v s taken kept enough e = omega (arith, ap length taken, enough)
+enough_far false true None u v s taken kept enough e = omega (arith, ap length kept, enough)
+enough_far true true None u v s taken kept enough e = absurd (false≢true s)
+enough_far false true (Some n) u v s taken kept enough e = absurd (false≢true (sym s))
+
+-- a list without the first of another is not longer
+pub none_taken : {A : Type 0} (o : Option ℕ) (f : A → List ℕ) (x y : A) → IfNone o (x ≡ y) → IfNone o (f x ≡ f y)
+none_taken None f x y e = ap f e
+none_taken (Some n) f x y e = tt

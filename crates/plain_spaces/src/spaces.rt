@@ -1,0 +1,67 @@
+//! The spaces that are present, by number.
+ghost use Rattle.std.specs.Prelude.{◌≡◌, ℕ, ◌<◌, OnOk, OnErr};
+ghost use Rattle.std.specs.Option.{option_copied, option_copied_mut};
+ghost use Rattle.std.specs.Borrow.{sem};
+ghost use Rattle.std.specs.FinMap as map;
+ghost use Rattle.plain_spaces.specs.Lending.{LendsSpace};
+
+use crate::space::AddressSpace;
+use std::alloc::{AllocError, Global};
+use std::collections::BTreeMap;
+use std::marker::Model;
+
+/// The spaces that are present.
+#[derive(Drop)]
+pub struct Spaces {
+    spaces: BTreeMap<u8, AddressSpace>,
+}
+
+impl Model for Spaces {
+    ghost use Rattle.std.specs.Ordering.{nat_cmp};
+    ghost use Rattle.std.specs.FinMap as map;
+    ghost use Rattle.std.specs.Coded.{coded_ℕ};
+    ghost use Rattle.page_map.specs.State.{AddressSpace};
+    ghost use Rattle.page_map.specs.declared.cell.Cell.{Cell};
+    ghost use Rattle.page_map.specs.contracts.cell.Cell as cell;
+
+    ghost Value = { map.FinMap nat_cmp AddressSpace };
+
+    ghost coded = { map.code coded_ℕ (map.code coded_ℕ cell.the_row.coded) };
+
+    ghost view = { λ a. map.from_entries a.spaces.entries };
+}
+
+impl Spaces {
+    /// No spaces.
+    pub fn new(alloc: Global) -> Self
+        ensures { result ≡ map.empty }
+    {
+        Self {
+            spaces: BTreeMap::new(alloc),
+        }
+    }
+
+    /// The cells of a space; `None` where it is absent.
+    pub fn get(&self, space: u8) -> Option<&AddressSpace>
+        ensures { option_copied result ≡ map.get self.now space }
+    {
+        self.spaces.get(&space)
+    }
+
+    /// The cells of a space, to be changed; `None` where it is absent.
+    pub fn get_mut(&mut self, space: u8) -> Option<&mut AddressSpace>
+        ensures* writes_back { sem 𝓛 (LendsSpace self.entry space result) }
+        ensures value { option_copied_mut result ≡ map.get self.old space }
+    {
+        self.spaces.get_mut(&space)
+    }
+
+    /// Puts these cells at a space.
+    pub fn insert(&mut self, space: u8, cells: AddressSpace) -> Result<(), AllocError>
+        ensures ok { OnOk result (self.new ≡ map.insert self.old space cells) }
+        ensures err { OnErr result (self.new ≡ self.old) }
+    {
+        self.spaces.insert(space, cells)?;
+        Ok(())
+    }
+}
