@@ -36,7 +36,6 @@ may_add k v old new has grown names = record {
   };
   free = λ r. refl;
   limbo = refl;
-  blocked = λ _ e. absurd (cc);
 }
 
 pub may_start : (k : Layout) (rows : List ℕ) (book : Notes) → k.rows ≡ 2 → length rows ≡ k.rows → book.items ≡ [] → MayStart tally k rows book
