@@ -1,10 +1,4 @@
 pub mod Variants
-pub mod Sets
-pub mod Least
-pub mod Free
-pub mod Gaps
-pub mod Bits
-pub mod Tally
 pub mod Reach
 pub mod Plans
 pub mod Moves
@@ -12,8 +6,6 @@ pub mod Brought
 pub mod Stores
 pub mod Loads
 pub mod Made
-pub mod Levels
-pub mod Missing
 pub mod Parts
 pub mod Nexts
 pub mod Followed
