@@ -11,7 +11,7 @@ use Rattle.page_map.specs.Change.{least}
 use Rattle.page_map.specs.Mapping.{after_ops}
 use Rattle.page_map.specs.State.{AddressSpace}
 use Rattle.page_map.proofs.Least.{least_passes, none_below_least}
-use Rattle.plain_spaces.proofs.Least.{least_is, least_none}
+use Rattle.plain_counts.proofs.Least.{least_is, least_none}
 use Rattle.plain_spaces.proofs.Nexts.{none_passes}
 use Rattle.txn_plan.specs.Covers.{covered, is_as}
 use Rattle.txn_plan.proofs.Covering.{presence}

@@ -1,3 +1,4 @@
 pub mod Covering
 pub mod Leasts
 pub mod Judging
+pub mod Needing

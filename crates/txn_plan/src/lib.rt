@@ -3,7 +3,9 @@
 #![tactic(auto)]
 
 mod judge;
+mod need;
 mod operation;
 mod pieces;
 
 pub use judge::first_undone;
+pub use need::tables_needed;

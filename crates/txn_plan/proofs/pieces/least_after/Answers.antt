@@ -1,5 +1,5 @@
 use Rattle.std.proofs.Common.{sym, arith}
-use Rattle.plain_spaces.proofs.Least.{least_none}
+use Rattle.plain_counts.proofs.Least.{least_none}
 use Rattle.txn_plan.proofs.Leasts.{passes, none_more, first_found}
 use Rattle.txn_plan.proofs.pieces.least_after.Goals as goal
 
