@@ -3,11 +3,13 @@ pub mod Shown
 pub mod Frames
 pub mod Views
 pub mod Locks
+pub mod Known
 pub mod Told
 pub mod Start
 pub mod Spans
 pub mod Regions
 pub mod Turns
+pub mod Sizes
 pub mod End
 pub mod Tally
 pub mod Crossings

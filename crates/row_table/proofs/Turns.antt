@@ -44,7 +44,7 @@ use Rattle.row_table.proofs.Regions.{untouched}
 
 -- Lists
 
-contained_map : {X Y : Type 0} (f : X → Y) (xs : List X) (y : Y) → Contains (map f xs) y → (x : X) × Contains xs x × (f x ≡ y)
+pub contained_map : {X Y : Type 0} (f : X → Y) (xs : List X) (y : Y) → Contains (map f xs) y → (x : X) × Contains xs x × (f x ≡ y)
 contained_map f [] y c = let h = c.1 in absurd (omega arith)
 contained_map f (x ∷ xs) y c = ⊎_elim (λ (z : f x ≡ y). (x, Rattle.row_table.proofs.Views.in_head x xs, z))
     (λ (l : Contains (map f xs) y). let o = contained_map f xs y l in (o.0, Rattle.row_table.proofs.Views.in_tail x xs o.0 o.1, o.2)) (head_or_later (f x) (map f xs) y c)
@@ -131,6 +131,7 @@ module _ {R B E : Type 0} (M : Meaning R B E) where
             shows
             (record {
               there = now.there;
+              layout = now.layout;
               epoch = now.epoch;
               held = now.held;
               rows = λ y i. let o = now.rows y i in record { there = o.there; shown = o.shown; place = o.place; agrees = o.agrees };
@@ -158,6 +159,7 @@ module _ {R B E : Type 0} (M : Meaning R B E) where
             shows
             (record {
               there = now.there;
+              layout = now.layout;
               epoch = now.epoch;
               held = now.held;
               rows = λ y i. let o = now.rows y i in record { there = o.there; shown = o.shown; place = o.place; agrees = o.agrees };
@@ -231,6 +233,7 @@ module _ {R B E : Type 0} (M : Meaning R B E) where
         let fresh : List HandRow = hand_rows M (generation_of s.words) h.book new taken in
         record {
           there = now.there;
+          layout = now.layout;
           epoch = now.epoch;
           held = same_parts given row_part row_part (λ x. refl) v.rows ∙ now.held;
           rows = λ y i. let o = contained_map given v.rows y i in let is = now.rows o.0 o.1 in
@@ -271,6 +274,7 @@ module _ {R B E : Type 0} (M : Meaning R B E) where
         subst (λ (q : Place). M.agrees new q words y) is.place (stays x.row linked out words y (subst (λ (q : Place). M.agrees h.book q words y) (sym is.place) a))) in
         record {
           there = now.there;
+          layout = now.layout;
           epoch = now.epoch;
           held = now.held;
           rows = λ x i. let o = now.rows x i in record {

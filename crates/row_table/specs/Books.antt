@@ -28,7 +28,7 @@ use Rattle.row_table.specs.declared.view.PassView.{PassView}
 use Rattle.row_table.specs.declared.view.HeldRow.{HeldRow}
 use Rattle.row_table.specs.declared.view.HandRow.{HandRow}
 use Rattle.row_table.specs.Plan.{Meaning, Region}
-use Rattle.row_table.specs.Rule.{Slot, Seat, levels, StartsWith, SameRows, view, own_places, core_of, Agrees}
+use Rattle.row_table.specs.Rule.{Slot, Seat, levels_of, StartsWith, SameRows, view, own_places, core_of, Agrees}
 use Rattle.row_table.specs.Moves.{NotInHand}
 
 abbrev pub given : {R : Type 0} → HeldRow R → HeldRow R
@@ -47,7 +47,7 @@ module _ {R B E : Type 0} where
     pub inside : index < 512
     pub link : is_link (slice_index linker.words index) ≡ true
     pub child_held : ¬ Has v.core.held (link_row (slice_index linker.words index))
-    pub place : p ≡ entry_place levels linker.place index
+    pub place : p ≡ entry_place (levels_of v.layout) linker.place index
 
   abbrev pub region : PassView R B E → Region
   region v = record {

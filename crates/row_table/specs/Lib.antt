@@ -1,6 +1,7 @@
 pub mod Plan
 pub mod Rows
 pub mod Rule
+pub mod Known
 pub mod Moves
 pub mod Stack
 pub mod Books
