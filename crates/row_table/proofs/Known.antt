@@ -93,10 +93,14 @@ module _ {R B E : Type 0} (M : Meaning R B E) (k : Layout) (first : B) (s : Tabl
       says : (n : ℕ) → n ≡ get_or s.words (lock_at r) 0 → LockSays c r n → n ≢ 0 → n ≢ stale → (q : ℕ) × (n ≡ held_by q) × IsHolder v r q
       says n is (says_free z t) nz ns = absurd (nz z)
       says n is (says_stale z out) nz ns = absurd (ns z)
-      says n is (says_held p is_held has) nz ns = (p, is_held, record {
-        there = subst (λ (y : Layout). p < y.passes) (sym (h.knows v.number v mine).layout) (held_below c p r h.good has);
-        own = λ mine_too. let one = (h.good.locks.rows.held v.number r (has_held M k first s h v mine r mine_too)).shown in omega arith;
-        other = dite (ℕ_discrete p v.number)
-            (λ e. inr (subst (λ (u : PassCore). Has u.held r) (pass_is M k first s h v mine) (subst (λ (q : ℕ). Has (pass_at c q).held r) e has)))
-            (λ ne. inl ne);
-      })
+      says n is (says_held p is_held has) nz ns = (
+        p,
+        is_held,
+        record {
+          there = subst (λ (y : Layout). p < y.passes) (sym (h.knows v.number v mine).layout) (held_below c p r h.good has);
+          own = λ mine_too. let one = (h.good.locks.rows.held v.number r (has_held M k first s h v mine r mine_too)).shown in omega arith;
+          other = dite (ℕ_discrete p v.number)
+              (λ e. inr (subst (λ (u : PassCore). Has u.held r) (pass_is M k first s h v mine) (subst (λ (q : ℕ). Has (pass_at c q).held r) e has)))
+              (λ ne. inl ne);
+        },
+      )

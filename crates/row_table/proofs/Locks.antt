@@ -165,8 +165,7 @@ module _ {R B E : Type 0} (M : Meaning R B E) where
             shows
             (record { there = now.there; layout = now.layout; epoch = now.epoch; held = now.held; rows = λ y i. let o = now.rows y i in record { there = o.there; shown = o.shown; place = o.place; agrees = o.agrees }; granted = now.granted; hand = now.hand; found = now.found; origin = now.origin; seen = now.seen; mine = now.mine }),
         λ q same. let e : r ≡ q = omega arith in
-            subst (GrabSays m found (w ∷ [], m.1)) e
-            (
+            subst (GrabSays m found (w ∷ [], m.1)) e (
               (λ z. absurd (miss z)),
               λ _. (
                 record {
