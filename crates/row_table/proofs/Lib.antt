@@ -3,13 +3,16 @@ pub mod Shown
 pub mod Frames
 pub mod Views
 pub mod Locks
+pub mod Beside
 pub mod Told
 pub mod Start
 pub mod Spans
 pub mod Regions
+pub mod Vacant
 pub mod Turns
 pub mod End
 pub mod Tally
 pub mod Crossings
 pub mod Looks
 pub mod Marks
+pub mod Openings

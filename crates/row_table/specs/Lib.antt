@@ -1,11 +1,14 @@
 pub mod Plan
 pub mod Rows
+pub mod Vacant
 pub mod Rule
 pub mod Moves
 pub mod Stack
 pub mod Books
 pub mod Crossings
 pub mod Looks
+pub mod Openings
+pub mod Links
 pub mod Calls
 pub mod Rooms
 pub mod Close

@@ -24,7 +24,7 @@ abbrev pub finding : ℕ → Place → Option ℕ → ℕ → Finding
 finding row place index word = record { row = row; place = place; index = index; word = word }
 
 abbrev pub grabbed : {R : Type 0} → ℕ → Place → List ℕ → R → HeldRow R
-grabbed row place words found = record { row = row; place = place; words = words; words_found = words; found = found; is_given = false }
+grabbed row place words found = record { row = row; place = place; words = words; words_found = words; found = Some found; is_given = false; vacant = [] }
 
 module _ {R B E : Type 0} where
   abbrev pub looked : PassView R B E → ℕ → Place → Option ℕ → ℕ → PassView R B E
@@ -79,5 +79,5 @@ module _ {R B E : Type 0} where
     pub known : HeldRow R
     pub held : Contains v.rows known
     pub same_row : known.row ≡ row
-    pub content_fits : ((known.is_given ≡ false) × (content ≡ known.found) × (known.words ≡ known.words_found))
+    pub content_fits : ((known.is_given ≡ false) × (known.found ≡ Some content) × (known.words ≡ known.words_found))
         ⊎ ((known.is_given ≡ true) × ((book : B) × (v.last ≡ Some book) × M.agrees book known.place known.words content))

@@ -7,6 +7,7 @@ mod close;
 mod crossing;
 mod looking;
 mod marking;
+mod opening;
 mod pass;
 mod plan;
 mod rooms;
