@@ -21,11 +21,11 @@ use Rattle.row_table.specs.declared.view.PassView.{PassView}
 use Rattle.row_table.specs.declared.view.HandRow.{HandRow}
 use Rattle.row_table.specs.Plan.{Meaning}
 use Rattle.row_table.specs.Rows.{lock_of, generation_of}
-use Rattle.row_table.specs.Rule.{Homes, Table, levels, row_part, hand_part, core_of, Contents, Knows, Holds}
+use Rattle.row_table.specs.Rule.{Homes, Table, levels_of, row_part, hand_part, core_of, Contents, Knows, Holds}
 use Rattle.row_table.proofs.Shown.{ShowsSame, shows_same}
 use Rattle.row_table.proofs.Frames.{RowHome, words_after, moved, home_of, home_moves}
 use Rattle.row_table.proofs.Views.{head_or_later, pass_is, not_in_hand}
-use Rattle.row_table.proofs.Locks.{held_below}
+use Rattle.row_table.proofs.Known.{held_below}
 
 -- Hands
 
@@ -111,6 +111,7 @@ module _ {R B E : Type 0} (M : Meaning R B E) where
         let hand_other : (x : HandRow) → Contains u.hand x → x.row ≢ r = λ x i. not_part hand_part u.hand (granted_rows u.core) r old.granted not_granted x i in
         record {
           there = old.there;
+          layout = old.layout;
           epoch = epochs_stay u.number ∙ old.epoch;
           held = old.held;
           rows = λ x i. let o = old.rows x i in let z = others_show x.row (not_part row_part u.rows u.core.held r old.held unheld x i) in
@@ -131,7 +132,7 @@ module _ {R B E : Type 0} (M : Meaning R B E) where
 
   pub moved_beside : (k : Layout) (first : B) (s : Table R B E) (h : Holds M k first s) (id : ℕ) (v w : PassView R B E) (e : Event) (r j n : ℕ)
       → get_elem? s.views id ≡ some (v ∷ []) → pass_of e ≡ v.number → w.number ≡ v.number → Guard (core_of M k s.words h.passes h.free h.book) v.core e
-      → w.core ≡ pass_after levels e (get_or s.words (place_of k.rows k.passes e) 0) v.core
+      → w.core ≡ pass_after (levels_of k) e (get_or s.words (place_of k.rows k.passes e) 0) v.core
       → free_after e h.free ≡ h.free → M.limbo h.book ≡ limbo_after e (M.limbo h.book)
       → words_after k s.words e ≡ set s.words (515 * r + j) n → r < k.rows → j < 515 → j ≢ 512
       → lock_of s.words r ≢ 0 → generation_of (set s.words (515 * r + j) n) r < M.next_generation h.book → NoOther h.passes v.number r

@@ -27,7 +27,7 @@ use Rattle.row_table.specs.Rows.{row_words, place_at, lock_of}
 use Rattle.row_table.specs.Rule.{Slot, Table, core_part, core_of, Seats, Holds}
 use Rattle.row_layout.specs.Places.{word_count}
 use Rattle.row_table.specs.Close.{IsIdle, HasAll, IsReachedIn, IsReached, IsGoodEnd, KnownAtEnd, AtEnd, IsClosed}
-use Rattle.row_table.proofs.Locks.{held_below}
+use Rattle.row_table.proofs.Known.{held_below}
 use Rattle.row_table.proofs.Turns.{book_below}
 
 -- an element of two lists put together

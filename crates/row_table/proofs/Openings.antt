@@ -2,6 +2,7 @@
 use Rattle.std.proofs.Common.{◌≡◌, ◌≢◌, ℕ, ◌+◌, ◌*◌, ◌<◌, ◌≤◌, ◌^◌, eqb, cond, true, false, Bool, List, [], ◌∷◌, ◌++◌, map, length, get_or, set, sym, refl, ap, ◌∙◌, subst, ⊎_elim, arith, length-set, get_or-set_same, get_or-set_other, eq-eqb, ne_eqb, Some}
 use Rattle.std.specs.List.{Contains}
 use Rattle.std.proofs.lemmas.List.{map-append}
+use Rattle.std.proofs.lemmas.List.FromFn.{get_or-map-range_with_len}
 use Rattle.std.proofs.lemmas.List.Elements.{Contains-push_cases}
 use mathlib.Core.Option.{some, none}
 use mathlib.Core.Logic.{dite}
@@ -32,7 +33,7 @@ use Rattle.row_table.specs.declared.plan.Content.TheVariants.{Row}
 use Rattle.row_table.specs.Plan.{Meaning}
 use Rattle.row_table.specs.Vacant.{blank_words, KeepsVacant}
 use Rattle.row_table.specs.Rows.{row_words, place_at, lock_of, generation_of}
-use Rattle.row_table.specs.Rule.{Seat, Table, levels, view, IsOne, row_part, hand_part, core_of, IsHeldRow, IsHandRow, Knows, Holds}
+use Rattle.row_table.specs.Rule.{Seat, Table, levels_of, view, IsOne, row_part, hand_part, core_of, IsHeldRow, IsHandRow, Knows, Holds}
 use Rattle.row_table.specs.Openings.{with_place, with_number, opened_row, placed, numbered, opened, MaySetUp, PlaceTells, NumberTells, MayOpen, IsSetUp, OpenSays, OpenTells}
 use Rattle.row_table.proofs.Shown.{same_on, lock_shows}
 use Rattle.row_table.proofs.Frames.{moved_here, knows_shown, contents_locked}
@@ -45,17 +46,25 @@ pub blank_is : (ws : List ℕ) (r : ℕ) → ((i : ℕ) → i < 512 → get_or w
 unfolding row_words blank_words
 blank_is ws r zeros = same_on (λ (j : ℕ). get_or ws (entry_at r j) 0) (λ (j : ℕ). 0) 0 512 (λ i less. zeros i (omega arith))
 
+pub blank_zero : (i : ℕ) → i < 512 → get_or blank_words i 0 ≡ 0
+unfolding blank_words
+blank_zero i h = get_or-map-range_with_len (λ (j : ℕ). 0) 0 512 i i 0 h (let e : 0 + i ≡ i = omega arith in e)
+
 pub in_map : {X Y : Type 0} (f : X → Y) (xs : List X) (x : X) → Contains xs x → Contains (map f xs) (f x)
 in_map f [] x c = let h = c.1 in absurd (omega arith)
 in_map {X} {Y} f (y ∷ ys) x c = ⊎_elim (λ (z : y ≡ x). subst (λ (u : Y). Contains (f y ∷ map f ys) u) (ap f z) (in_head (f y) (map f ys)))
     (λ (l : Contains ys x). in_tail (f y) (map f ys) (f x) (in_map f ys x l)) (head_or_later y ys x c)
 
 -- a position that may be set up has a spelling
-pub is_spelled : (q : Place) → is_place levels q ≡ true → (q.space < 64) × (q.level < 8) × (q.prefix < 2 ^ 45)
-is_spelled q right = let low = is_place_low levels q right in let small = low.1 in (low.0, omega arith, prefix_low levels q (omega arith) right)
+pub levels_low : (k : Layout) → levels_of k ≤ 5
+unfolding levels_of
+levels_low k = omega arith
 
-pub spelled_is : (q : Place) (x : ℕ) → is_place levels q ≡ true → x ≡ position_word q → place_shown x ≡ q
-spelled_is q x right is = let low = is_spelled q right in ap place_shown is ∙ place_shown-position_word q low.0 low.1
+pub is_spelled : (k : Layout) (q : Place) → is_place (levels_of k) q ≡ true → (q.space < 64) × (q.level < 8) × (q.prefix < 2 ^ 45)
+is_spelled k q right = let low = is_place_low (levels_of k) q right in let small = low.1 in let most = levels_low k in (low.0, omega arith, prefix_low (levels_of k) q most right)
+
+pub spelled_is : (k : Layout) (q : Place) (x : ℕ) → is_place (levels_of k) q ≡ true → x ≡ position_word q → place_shown x ≡ q
+spelled_is k q x right is = let low = is_spelled k q right in ap place_shown is ∙ place_shown-position_word q low.0 low.1
 
 module _ {R B E : Type 0} (M : Meaning R B E) where
   -- what the rule says of a row of the pass's hand that it does not hold
@@ -88,6 +97,7 @@ module _ {R B E : Type 0} (M : Meaning R B E) where
       = λ q. (let t = ap (times q) (part_keeps_rows r part v.core.granted) in omega arith) in
       record {
         there = old.there;
+        layout = old.layout;
         epoch = epochs_stay M k ws r j n less near no_lock v.number ∙ old.epoch;
         held = old.held;
         rows = λ x i. let o = old.rows x i in let z = shows x.row (not_part row_part v.rows v.core.held r old.held unheld x i) in
@@ -139,7 +149,7 @@ module _ {R B E : Type 0} (M : Meaning R B E) where
       go true = record { there = old.there; shown = old.shown; below = old.below; fresh = old.fresh }
       go false = old
 
-  pub places : (k : Layout) (first : B) (slots id : ℕ) (m : Seat R B E) (n r : ℕ) (q : Place) (known : HandRow) → IsOne n m → Contains (view m).hand known → known.row ≡ r → times r (view m).core.held ≡ 0 → is_place levels q ≡ true
+  pub places : (k : Layout) (first : B) (slots id : ℕ) (m : Seat R B E) (n r : ℕ) (q : Place) (known : HandRow) → IsOne n m → Contains (view m).hand known → known.row ≡ r → times r (view m).core.held ≡ 0 → is_place (levels_of (view m).layout) q ≡ true
       → Allows (Holds M k first) slots id m (position_at r) (λ _. position_word q) (λ _. PlaceTells (step slots (position_at r) (position_word q) 0 none) m (position_word q))
   places k first slots id m n r q known one in_hand same_row unheld right s h long me _ =
       let v : PassView R B E = view m in
@@ -151,15 +161,15 @@ module _ {R B E : Type 0} (M : Meaning R B E) where
       let wide = h.good.sizes.words in
       let near : position_at r < length s.words = omega arith in
       let word : ℕ = position_word q in let shown : Place = place_shown word in
-      let low = is_place_low levels q right in let small = low.1 in
-      let path : shown ≡ q = place_shown-position_word q low.0 (omega arith) in
+      let path : shown ≡ q = spelled_is v.layout q word right refl in
+      let right_here : is_place (levels_of k) q ≡ true = subst (λ (y : Layout). is_place (levels_of y) q ≡ true) know.layout right in
       let ws : List ℕ = set s.words (515 * r + 513) word in
       let at : place_at ws r ≡ shown = ap place_shown (get_or-set_same s.words (position_at r) word 0 near) in
       let w : PassView R B E = placed v r shown in (
         w ∷ [],
         keeps,
         tt,
-        set_part k first s h id v (Position shown) (with_place r shown) r 513 word me' refl (omega arith) (λ e. omega arith) (ap position_word path) granted unheld (ap (is_place levels) path ∙ right)
+        set_part k first s h id v (Position shown) (with_place r shown) r 513 word me' refl (omega arith) (λ e. omega arith) (ap position_word path) granted unheld (ap (is_place (levels_of k)) path ∙ right_here)
             (subst (λ (g : ℕ). g < M.next_generation h.book) (sym (generation_stays s.words r word r)) (h.generations r less))
             (prepared_knows k first s.words r 513 word less (omega arith) (λ e. omega arith) h.book v (Position shown) (with_place r shown) unheld know (with_place_row r shown)
             (λ x i. let o = know.hand x i in with_place_known k ws h.book r shown x (record { there = o.there; shown = generation_stays s.words r word x.row ∙ o.shown; below = o.below; fresh = o.fresh }))
@@ -226,6 +236,7 @@ module _ {R B E : Type 0} (M : Meaning R B E) where
       let w : PassView R B E = opened v r (place_at ws r) in
       let z = shows.rows r less in record {
         there = now.there;
+        layout = now.layout;
         epoch = now.epoch;
         held = map-append row_part v.rows (g ∷ []) ∙ ap (λ (l : List ℕ). l ++ r ∷ []) now.held;
         rows = λ y i. ⊎_elim
@@ -235,7 +246,7 @@ module _ {R B E : Type 0} (M : Meaning R B E) where
         granted = now.granted;
         hand = now.hand;
         vacant = λ y i. ⊎_elim (now.vacant y)
-            (λ (e : g ≡ y). subst (λ (u : HeldRow R). times_in_hand u.row v.core ≡ 0 → KeepsVacant M levels b v.last u) e (λ out. absurd (omega arith)))
+            (λ (e : g ≡ y). subst (λ (u : HeldRow R). times_in_hand u.row v.core ≡ 0 → KeepsVacant M (levels_of k) b v.last u) e (λ out. absurd (omega arith)))
             (Contains-push_cases v.rows g y i);
         placed = now.placed;
         found = now.found;
@@ -279,7 +290,7 @@ module _ {R B E : Type 0} (M : Meaning R B E) where
 
   -- the same where the place and the number are known by equations
 
-  pub places_at : (k : Layout) (first : B) (slots id : ℕ) (m : Seat R B E) (n r i x : ℕ) (q : Place) (known : HandRow) → i ≡ position_at r → x ≡ position_word q → IsOne n m → Contains (view m).hand known → known.row ≡ r → times r (view m).core.held ≡ 0 → is_place levels q ≡ true
+  pub places_at : (k : Layout) (first : B) (slots id : ℕ) (m : Seat R B E) (n r i x : ℕ) (q : Place) (known : HandRow) → i ≡ position_at r → x ≡ position_word q → IsOne n m → Contains (view m).hand known → known.row ≡ r → times r (view m).core.held ≡ 0 → is_place (levels_of (view m).layout) q ≡ true
       → Allows (Holds M k first) slots id m i (λ _. x) (λ _. PlaceTells (step slots i x 0 none) m x)
   places_at k first slots id m n r i x q known at is one in_hand same_row unheld right =
       subst (λ (j : ℕ). Allows (Holds M k first) slots id m j (λ _. x) (λ _. PlaceTells (step slots j x 0 none) m x)) (sym at)

@@ -33,7 +33,7 @@ use Rattle.row_table.specs.declared.view.HandRow.{HandRow}
 use Rattle.row_table.specs.declared.plan.Content.TheVariants.{Book}
 use Rattle.row_table.specs.Plan.{Meaning, IsLawful}
 use Rattle.row_table.specs.Rows.{row_words, place_at, lock_of, generation_of}
-use Rattle.row_table.specs.Rule.{Slot, Homes, Seat, Table, levels, view, IsOne, row_part, hand_part, StartsWith, places_from, own_places, SameRows, core_of, IsHeldRow, IsHandRow, Knows, Holds}
+use Rattle.row_table.specs.Rule.{Slot, Homes, Seat, Table, levels_of, view, IsOne, row_part, hand_part, StartsWith, places_from, own_places, SameRows, core_of, IsHeldRow, IsHandRow, Knows, Holds}
 use Rattle.row_table.specs.Moves.{NotInHand}
 use Rattle.row_table.specs.Vacant.{KeepsVacant}
 use Rattle.row_table.specs.Books.{given, region, swept_rows, taken_rows, give_of, MayGive, turned, waited, hand_rows, gave, Learns, TurnSays, TurnTells, GiveSays, GiveTells}
@@ -133,6 +133,7 @@ module _ {R B E : Type 0} (M : Meaning R B E) where
             shows
             (record {
               there = now.there;
+              layout = now.layout;
               epoch = now.epoch;
               held = now.held;
               rows = λ y i. let o = now.rows y i in record { there = o.there; shown = o.shown; place = o.place; agrees = o.agrees };
@@ -162,6 +163,7 @@ module _ {R B E : Type 0} (M : Meaning R B E) where
             shows
             (record {
               there = now.there;
+              layout = now.layout;
               epoch = now.epoch;
               held = now.held;
               rows = λ y i. let o = now.rows y i in record { there = o.there; shown = o.shown; place = o.place; agrees = o.agrees };
@@ -237,6 +239,7 @@ module _ {R B E : Type 0} (M : Meaning R B E) where
         let fresh : List HandRow = hand_rows M (generation_of s.words) h.book new taken in
         record {
           there = now.there;
+          layout = now.layout;
           epoch = now.epoch;
           held = same_parts given row_part row_part (λ x. refl) v.rows ∙ now.held;
           rows = λ y i. let o = contained_map given v.rows y i in let is = now.rows o.0 o.1 in
@@ -255,7 +258,7 @@ module _ {R B E : Type 0} (M : Meaning R B E) where
               let less = taken_there o.0 (has_contained taken o.0 o.1) in
               subst (λ (y : HandRow). IsHandRow M k us new y) o.2 (record { there = less; shown = (shows.rows o.0 less).generation; below = (let low = h.generations o.0 less in let up = rises in omega arith); fresh = omega arith }))
               (Contains-append_cases v.hand fresh x i);
-          vacant = λ y i _. let o = contained_map given v.rows y i in subst (KeepsVacant M levels new (Some new)) o.2 (vacant_given M levels new o.0);
+          vacant = λ y i _. let o = contained_map given v.rows y i in subst (KeepsVacant M (levels_of k) new (Some new)) o.2 (vacant_given M (levels_of k) new o.0);
           placed = λ x i. ⊎_elim (now.placed x)
               (λ (j : Contains fresh x). let o = contained_map (λ r. record { row = r; generation = generation_of s.words r; low = M.next_generation h.book; high = M.next_generation new; place = None }) taken x j in
               subst (λ (y : HandRow). (p : Place) → y.place ≡ Some p → place_at us y.row ≡ p) o.2 (λ p e. absurd (cc)))
@@ -282,6 +285,7 @@ module _ {R B E : Type 0} (M : Meaning R B E) where
         subst (λ (q : Place). M.agrees new q words y) is.place (stays x.row linked out words y (subst (λ (q : Place). M.agrees h.book q words y) (sym is.place) a))) in
         record {
           there = now.there;
+          layout = now.layout;
           epoch = now.epoch;
           held = now.held;
           rows = λ x i. let o = now.rows x i in record {

@@ -2,13 +2,12 @@
 --     IsHeldAt, IsBelow, region      the positions of a pass's rows, those of the linked rows below them that it does not hold, and its region
 --     book_core      a core of which nothing but the book's lists is known
 --     swept_rows, put_list, taken_rows, give_of      the three lists of a give, by the books before and after, and the event
---     IsBlocked      each row in limbo has a pass whose sample kept it there
 --     MayGive      when a pass may give the second book, where its turn found the first
 --     turned, waited, gave      the pass after a turn that got the book, after one that did not, and after a give
 --     Learns      what a turn that got the book tells
 --     TurnSays, TurnTells, Grants, GiveSays, GiveTells      what a step tells its seat
 --     Turns, Gives, IsGivable      what a turn answers, what a give does, and when it may
-use Rattle.std.specs.Prelude.{◌≡◌, ◌≢◌, ℕ, ◌+◌, ◌%◌, ◌<◌, ◌≤◌, ◌⊎◌, not, true, false, List, [], ◌∷◌, ◌++◌, map, slice_index, None, Some}
+use Rattle.std.specs.Prelude.{◌≡◌, ◌≢◌, ℕ, ◌+◌, ◌<◌, ◌≤◌, not, true, false, List, [], ◌∷◌, ◌++◌, map, slice_index, None, Some}
 use Rattle.std.specs.List.{Contains, filter}
 use Rattle.atomic_table.specs.Table.{Step, rest}
 use Rattle.table_place.specs.declared.Place.{Place}
@@ -16,13 +15,11 @@ use Rattle.table_place.specs.Place.{entry_place, has_page}
 use Rattle.walk_core.specs.declared.event.Event.{Event}
 use Rattle.walk_core.specs.declared.event.Event.TheVariants.{Give}
 use Rattle.walk_core.specs.declared.lists.PutRow.{PutRow}
-use Rattle.walk_core.specs.declared.pass.SampleBounds.{SampleBounds}
 use Rattle.walk_core.specs.Words.{is_link, link_row, held_by}
 use Rattle.walk_core.specs.Lists.{times, Has, among, minus}
 use Rattle.walk_core.specs.Core.{Core, no_samples, times_in_hand}
 use Rattle.walk_core.specs.Events.{newly_granted, unlinked_after_give, free_after, limbo_after}
 use Rattle.walk_core.specs.Guards.{Guard, put_rows}
-use Rattle.walk_core.specs.Good.{sample_of}
 use Rattle.row_layout.specs.declared.places.Layout.{Layout}
 use Rattle.row_table.specs.declared.plan.Content.TheVariants.{Book}
 use Rattle.row_table.specs.declared.answers.Turned.{Turned}
@@ -31,7 +28,7 @@ use Rattle.row_table.specs.declared.view.PassView.{PassView}
 use Rattle.row_table.specs.declared.view.HeldRow.{HeldRow}
 use Rattle.row_table.specs.declared.view.HandRow.{HandRow}
 use Rattle.row_table.specs.Plan.{Meaning, Region}
-use Rattle.row_table.specs.Rule.{Slot, Seat, levels, StartsWith, SameRows, view, own_places, core_of, Agrees}
+use Rattle.row_table.specs.Rule.{Slot, Seat, levels_of, StartsWith, SameRows, view, own_places, core_of, Agrees}
 use Rattle.row_table.specs.Vacant.{vacant_entries}
 use Rattle.row_table.specs.Moves.{NotInHand}
 
@@ -51,7 +48,7 @@ module _ {R B E : Type 0} where
     pub inside : index < 512
     pub link : is_link (slice_index linker.words index) ≡ true
     pub child_held : ¬ Has v.core.held (link_row (slice_index linker.words index))
-    pub place : p ≡ entry_place levels linker.place index
+    pub place : p ≡ entry_place (levels_of v.layout) linker.place index
 
   abbrev pub region : PassView R B E → Region
   region v = record {
@@ -81,22 +78,12 @@ module _ {R B E : Type 0} where
     abbrev pub give_of : ℕ → B → B → Event
     give_of p old new = Give p (put_list old new) (swept_rows old new) (taken_rows old new)
 
-    -- an odd number that the giver sampled of some pass since its turn is kept with the row
-    pub record IsBlocked (k : Layout) (v : PassView R B E) (put : PutRow) : Type 0 where
-      pub pass : ℕ
-      pub there : pass < k.passes
-      pub odd : slice_index put.samples pass % 2 ≡ 1
-      pub bounds : SampleBounds
-      pub sampled : sample_of v.core.samples pass ≡ Some bounds
-      pub same : (slice_index put.samples pass ≡ bounds.first) ⊎ (slice_index put.samples pass ≡ bounds.last)
-
     pub record MayGive (k : Layout) (v : PassView R B E) (old new : B) : Type 0 where
       pub follows : M.may_follow (region v) old new
       pub names : (entry : E) → M.journal new ≡ M.journal old ++ entry ∷ [] → M.thread entry ≡ v.number
       pub guard : Guard (book_core k old) v.core (give_of v.number old new)
       pub free : SameRows (free_after (give_of v.number old new) (M.free old)) (M.free new)
       pub limbo : M.limbo new ≡ limbo_after (give_of v.number old new) (M.limbo old)
-      pub blocked : M.journal new ≢ M.journal old → M.shows_limbo new ≡ true → (put : PutRow) → Contains (M.limbo new) put → IsBlocked k v put
 
     -- What the pass knows afterwards
 

@@ -2,6 +2,7 @@ pub mod Plan
 pub mod Rows
 pub mod Vacant
 pub mod Rule
+pub mod Known
 pub mod Moves
 pub mod Stack
 pub mod Books

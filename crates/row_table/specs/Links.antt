@@ -15,7 +15,7 @@ use Rattle.row_table.specs.declared.view.PassView.{PassView}
 use Rattle.row_table.specs.declared.view.HeldRow.{HeldRow}
 use Rattle.row_table.specs.declared.view.HandRow.{HandRow}
 use Rattle.row_table.specs.Vacant.{all_entries}
-use Rattle.row_table.specs.Rule.{Slot, Seat, levels, view}
+use Rattle.row_table.specs.Rule.{Slot, Seat, levels_of, view}
 use Rattle.row_table.specs.Moves.{NotInHand}
 
 module _ {R : Type 0} where
@@ -41,7 +41,7 @@ module _ {R B E : Type 0} where
   abbrev pub link_set : PassView R B E → HeldRow R → ℕ → ℕ → PassView R B E
   link_set v linker index word = record v {
     core = record v.core { granted = granted_after_entry word v.core.granted };
-    rows = map (with_link linker index (link_row word)) (map (with_word linker.row index word) v.rows);
+    rows = map (λ h. with_link linker index (link_row word) (with_word linker.row index word h)) v.rows;
     hand = filter (λ x. not (nat_eq x.row (link_row word))) v.hand;
   }
 
@@ -57,7 +57,7 @@ module _ {R B E : Type 0} where
     pub hand_row : HandRow
     pub granted : Contains v.hand hand_row
     pub same_row : hand_row.row ≡ link_row word
-    pub place : child.place ≡ entry_place levels linker.place index
+    pub place : child.place ≡ entry_place (levels_of v.layout) linker.place index
     pub generation : hand_row.generation ≡ link_generation word
 
   -- the row is held and linked, the old word is no link, and the new one is 0, a leaf in a row of level 1, or such a link
@@ -72,7 +72,7 @@ module _ {R B E : Type 0} where
 
   abbrev pub SetTells : Step (Slot R B) → Seat R B E → ℕ → Seat R B E → Type 0
   SetTells st m n m' = (row index : ℕ) (linker : HeldRow R) → index < 512 → st.word ≡ entry_at row index → Contains (view m).rows linker → linker.row ≡ row
-      → m' ≡ (entry_set (view m) linker index st.first ∷ [], m.1)
+      → (is_link st.first ≡ true → link_row st.first < (view m).layout.rows) × (m' ≡ (entry_set (view m) linker index st.first ∷ [], m.1))
 
   abbrev pub Sets : ℕ → ℕ → ℕ → PassView R B E → PassView R B E → Type 0
   Sets row index word v w = (linker : HeldRow R) → Contains v.rows linker → linker.row ≡ row → w ≡ entry_set v linker index word

@@ -76,12 +76,12 @@ impl<P: Plan> Iron<P> {
         kit: P::Kit,
     ) -> Pass<P>
         requires table { seat.old.table_id ≡ self.now.table.shared.table_id }
-        requires first { (more : _) × (seat.old.me ≡ (unmoved (Some self.now.table.shared.key.origin.value) number ∷ more, [])) }
+        requires first { (more : _) × (seat.old.me ≡ (unmoved self.now.layout (Some self.now.table.shared.key.origin.value) number ∷ more, [])) }
         requires number { number < self.now.layout.passes }
         requires stack { (stack.items ≡ []) × (self.now.layout.rows + 1 ≤ deque_capacity stack) }
         ensures table { (seat.new.table_id ≡ self.now.table.shared.table_id) × (result.seat.table_id ≡ self.now.table.shared.table_id) }
         ensures seat { seat.new.me ≡ (other_passes seat.old.me.0, []) }
-        ensures view { view result.seat.me ≡ unmoved (Some self.now.table.shared.key.origin.value) number }
+        ensures view { view result.seat.me ≡ unmoved self.now.layout (Some self.now.table.shared.key.origin.value) number }
         ensures number { (result.number ≡ number) × (result.kit ≡ Some kit) }
     {
         Pass {
@@ -103,11 +103,11 @@ impl<P: Plan> Iron<P> {
         kits: Vec<P::Kit>,
     ) -> Result<Vec<Pass<P>>, AllocError>
         requires table { seat.table_id ≡ self.now.table.shared.table_id }
-        requires seat { seat.me ≡ (boot_from (Some self.now.table.shared.key.origin.value) 0 self.now.layout.passes, []) }
+        requires seat { seat.me ≡ (boot_from self.now.layout (Some self.now.table.shared.key.origin.value) 0 self.now.layout.passes, []) }
         requires kits { length kits.items ≡ self.now.layout.passes }
         ensures numbers { IfOk result (λ passes. map (λ p. p.number) passes.items ≡ range_with_len 0 self.now.layout.passes) }
         ensures kits { IfOk result (λ passes. map (λ p. p.kit) passes.items ≡ map (λ kit. Some kit) kits.items) }
-        ensures views { IfOk result (λ passes. All (λ p. (p.seat.table_id ≡ self.now.table.shared.table_id) × (view p.seat.me ≡ unmoved (Some self.now.table.shared.key.origin.value) p.number)) passes.items) }
+        ensures views { IfOk result (λ passes. All (λ p. (p.seat.table_id ≡ self.now.table.shared.table_id) × (view p.seat.me ≡ unmoved self.now.layout (Some self.now.table.shared.key.origin.value) p.number)) passes.items) }
     {
         let mut passes = Vec::with_capacity(alloc, kits.len())?;
         for kit in kits {
@@ -136,7 +136,7 @@ impl<P: Plan> Iron<P> {
         ensures layout { IfOk result (λ made. made.0.layout ≡ layout) }
         ensures numbers { IfOk result (λ made. map (λ p. p.number) made.1.items ≡ range_with_len 0 layout.passes) }
         ensures kits { IfOk result (λ made. map (λ p. p.kit) made.1.items ≡ map (λ kit. Some kit) kits.items) }
-        ensures views { IfOk result (λ made. All (λ p. (p.seat.table_id ≡ made.0.table.shared.table_id) × (view p.seat.me ≡ unmoved (Some book) p.number)) made.1.items) }
+        ensures views { IfOk result (λ made. All (λ p. (p.seat.table_id ≡ made.0.table.shared.table_id) × (view p.seat.me ≡ unmoved layout (Some book) p.number)) made.1.items) }
     {
         let about = About {
             layout,

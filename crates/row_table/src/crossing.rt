@@ -42,7 +42,6 @@ impl<P: Plan> Pass<P> {
     /// Goes inside: the pass stands on row 0. A worn epoch word counts no more, and then nothing changes.
     pub fn enter(&mut self, iron: &Iron<P>) -> Result<(), Worn>
         requires table { self.old.seat.table_id ≡ iron.now.table.shared.table_id }
-        requires number { self.old.number < iron.now.layout.passes }
         requires outside { (view self.old.seat.me).core.stand ≡ None }
         ensures table { self.new.seat.table_id ≡ self.old.seat.table_id }
         ensures same { (self.new.number ≡ self.old.number) × (self.new.kit ≡ self.old.kit) }
@@ -62,7 +61,6 @@ impl<P: Plan> Pass<P> {
     /// Goes outside: the pass stands on no row.
     pub fn leave(&mut self, iron: &Iron<P>)
         requires table { self.old.seat.table_id ≡ iron.now.table.shared.table_id }
-        requires number { self.old.number < iron.now.layout.passes }
         requires inside { IsSome (view self.old.seat.me).core.stand }
         ensures table { self.new.seat.table_id ≡ self.old.seat.table_id }
         ensures same { (self.new.number ≡ self.old.number) × (self.new.kit ≡ self.old.kit) }

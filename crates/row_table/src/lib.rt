@@ -5,6 +5,7 @@ mod answers;
 mod boot;
 mod close;
 mod crossing;
+mod linking;
 mod looking;
 mod marking;
 mod opening;

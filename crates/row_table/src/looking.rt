@@ -22,7 +22,7 @@ impl<P: Plan> Pass<P> {
     /// Reads an entry word of a row that the pass stands on or holds. A link of the row that it stands on leads it to the linked row.
     pub fn look(&mut self, iron: &Iron<P>, row: u32, index: u32) -> u64
         requires table { self.old.seat.table_id ≡ iron.now.table.shared.table_id }
-        requires there { (row < iron.now.layout.rows) × (index < 512) }
+        requires inside { index < 512 }
         requires guard { MayLook (view self.old.seat.me) row }
         ensures table { self.new.seat.table_id ≡ self.old.seat.table_id }
         ensures same { (self.new.number ≡ self.old.number) × (self.new.kit ≡ self.old.kit) }

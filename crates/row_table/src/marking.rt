@@ -25,7 +25,6 @@ impl<P: Plan> Pass<P> {
     /// Lets a row go that the pass unlinked, with a blank content. Nobody may take it from then on.
     pub fn mark_stale(&mut self, iron: &Iron<P>, row: u32, content: P::Row)
         requires table { self.old.seat.table_id ≡ iron.now.table.shared.table_id }
-        requires row { row < iron.now.layout.rows }
         requires held { Has (view self.old.seat.me).core.held row }
         requires unlinked { Has (unlinked_rows (view self.old.seat.me).core) row }
         requires blank { P.meaning.is_blank content }

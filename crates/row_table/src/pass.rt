@@ -3,6 +3,7 @@ ghost use Rattle.std.specs.Prelude.{◌≡◌, ℕ, ◌+◌, ◌<◌, ◌≤◌,
 ghost use Rattle.std.specs.VecDeque.{deque_capacity};
 ghost use Rattle.walk_core.specs.Lists.{Has};
 ghost use Rattle.row_table.specs.Rule.{view, IsOne, SameRows};
+ghost use Rattle.row_table.specs.Known.{IsSized};
 ghost use Rattle.row_table.specs.Moves.{MayGrab, NotInHand, Fits, released};
 ghost use Rattle.row_table.specs.Stack.{outs, carried, AreRows};
 ghost use Rattle.row_table.specs.Books.{Turns, Gives, IsGivable};
@@ -64,7 +65,7 @@ pub struct Pass<P: Plan> {
     pub(crate) stack: VecDeque<u32>,
     pub(crate) kit: Option<P::Kit>,
     ghost one: { IsOne number seat.me },
-    ghost slots: { seat.table_id.slots ≡ rows + 1 },
+    ghost sized: { IsSized number rows seat.table_id (view seat.me) },
     ghost stacked: { seat.me.1 ≡ outs stack.items },
     ghost carries: { SameRows stack.items (carried rows (view seat.me).core.held (view seat.me).core.has_book) },
     ghost held: { AreRows rows (view seat.me).core.held },
@@ -76,7 +77,6 @@ impl<P: Plan> Pass<P> {
     /// Takes a row if nobody holds it.
     pub fn grab(&mut self, iron: &Iron<P>, row: u32) -> Grabbed<P::Row>
         requires table { self.old.seat.table_id ≡ iron.now.table.shared.table_id }
-        requires row { row < iron.now.layout.rows }
         requires guard { MayGrab (view self.old.seat.me) row }
         ensures table { self.new.seat.table_id ≡ self.old.seat.table_id }
         ensures same { (self.new.number ≡ self.old.number) × (self.new.kit ≡ self.old.kit) }
@@ -102,7 +102,6 @@ impl<P: Plan> Pass<P> {
     /// Gives a row back, with this content.
     pub fn release(&mut self, iron: &Iron<P>, row: u32, content: P::Row)
         requires table { self.old.seat.table_id ≡ iron.now.table.shared.table_id }
-        requires row { row < iron.now.layout.rows }
         requires held { Has (view self.old.seat.me).core.held row }
         requires linked { NotInHand (view self.old.seat.me) row }
         requires fits { Fits P.meaning (view self.old.seat.me) row content }

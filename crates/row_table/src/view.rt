@@ -1,4 +1,5 @@
 //! What a pass knows. No value of these types is made: clauses and proofs alone speak of them.
+use row_layout::Layout;
 use std::collections::LinkedList;
 use table_place::Place;
 use walk_core::PassCore;
@@ -46,6 +47,8 @@ pub struct Finding {
 /// What one pass knows of the shared table.
 pub struct PassView<R, B, E> {
     pub number: u8,
+    /// The sizes of its table.
+    pub layout: Layout,
     /// Its stand, the rows that it holds, its hand, whether it has the book, and its samples.
     pub core: PassCore,
     /// The number of its own epoch word.

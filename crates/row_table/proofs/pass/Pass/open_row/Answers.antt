@@ -4,6 +4,7 @@ use Rattle.row_table.specs.Rule.{view}
 use Rattle.row_table.specs.Openings.{opened}
 use Rattle.row_table.proofs.Openings.{opens_at}
 use Rattle.row_table.proofs.Told.{Kept, kept_by, view_of, front_of, swapped, came_out, not_carried, room_left, carries_row, rows_with}
+use Rattle.row_table.proofs.Sized.{sized_opened}
 use Rattle.row_table.proofs.pass.Pass.open_row.Goals as goal
 
 pub store-requires : goal.store-requires
@@ -15,7 +16,7 @@ store-requires g c = (
 
 pub push_front_reserved-requires : goal.push_front_reserved-requires
 push_front_reserved-requires g c =
-    let p = c.args.self.now in let rows = c.args.iron.now.sized.1 in let slots = p.slots in
+    let p = c.args.self.now in let rows = c.args.iron.now.sized.1 in let slots = p.sized.slots in
     let same = ap (λ (x : _). x.slots) c.requires.table in let less = c.requires.row in let room = p.room in
     let none : times c.args.row p.stack.items ≡ 0 = not_carried p.rows c.args.row (view p.seat.me).core.held p.stack.items (view p.seat.me).core.has_book p.carries c.requires.guard.closed (λ _ e. omega arith) in
     let few = room_left p.rows c.args.row (view p.seat.me).core.held p.stack.items (view p.seat.me).core.has_book p.carries p.held (omega arith) none in omega arith
@@ -25,17 +26,17 @@ take_row-requires-clause-front g c κs within = let t = c.store.ensures.2 c.args
 
 pub invariant_of-self : goal.invariant_of-self
 invariant_of-self g c =
-    let p = c.args.self.now in let t = c.store.ensures.2 c.args.row c.lock-word.ensures in let rows = c.args.iron.now.sized.1 in let slots = p.slots in
+    let p = c.args.self.now in let t = c.store.ensures.2 c.args.row c.lock-word.ensures in let rows = c.args.iron.now.sized.1 in let slots = p.sized.slots in
     let same = ap (λ (x : _). x.slots) c.requires.table in let less = c.requires.row in
     let items : List ℕ = c.args.row ∷ p.stack.items in
     let pushed : c.push_front_reserved.new.self.items ≡ items = c.push_front_reserved.ensures.items in
-    let k : Kept p.number p.rows c.take_row.new.seat.me c.push_front_reserved.new.self.items = subst (Kept p.number p.rows c.take_row.new.seat.me) (sym pushed)
-    (kept_by p.number p.rows c.take_row.new.seat.me items (opened (view p.seat.me) c.args.row t.0.place)
+    let k : Kept p.number p.rows c.take_row.new.seat.table_id c.take_row.new.seat.me c.push_front_reserved.new.self.items = subst (Kept p.number p.rows c.take_row.new.seat.table_id c.take_row.new.seat.me) (sym pushed)
+    (kept_by p.number p.rows p.seat.table_id c.take_row.new.seat.table_id c.take_row.new.seat.me items (opened (view p.seat.me) c.args.row t.0.place) (c.take_row.ensures.table ∙ c.store.ensures.0)
     (swapped _ _ _ _ _ _ t.3 c.take_row.ensures.seat ∙ ap (λ (cs : _). (opened (view p.seat.me) c.args.row t.0.place ∷ [], (c.args.row, None) ∷ cs)) p.stacked)
-    p.one.1 (carries_row p.rows c.args.row (view p.seat.me).core.held p.stack.items (view p.seat.me).core.has_book p.carries) (rows_with p.rows c.args.row (view p.seat.me).core.held p.held (omega arith) c.requires.guard.closed)) in
+    p.one.1 (sized_opened p.sized c.args.row t.0.place) (carries_row p.rows c.args.row (view p.seat.me).core.held p.stack.items (view p.seat.me).core.has_book p.carries) (rows_with p.rows c.args.row (view p.seat.me).core.held p.held (omega arith) c.requires.guard.closed)) in
     record {
       one = k.one;
-      slots = ap (λ (x : _). x.slots) (c.take_row.ensures.table ∙ c.store.ensures.0) ∙ p.slots;
+      sized = k.sized;
       stacked = k.stacked;
       carries = k.carries;
       held = k.held;

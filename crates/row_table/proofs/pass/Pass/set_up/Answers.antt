@@ -5,10 +5,11 @@ use Rattle.row_table.specs.Rule.{Seat, view}
 use Rattle.row_table.specs.Openings.{numbered, prepared}
 use Rattle.row_table.proofs.Openings.{is_spelled, spelled_is, places_at, numbers_next}
 use Rattle.row_table.proofs.Told.{Kept, kept_by, view_of}
+use Rattle.row_table.proofs.Sized.{sized_prepared}
 use Rattle.row_table.proofs.pass.Pass.set_up.Goals as goal
 
 pub position_word-spelled-requires : goal.position_word-spelled-requires
-position_word-spelled-requires g c = is_spelled c.args.place c.requires.guard.is_place
+position_word-spelled-requires g c = is_spelled (view c.args.self.now.seat.me).layout c.args.place c.requires.guard.is_place
 
 pub store-requires : goal.store-requires
 store-requires g c = let may = c.requires.guard in (
@@ -29,12 +30,12 @@ pub invariant_of-self : goal.invariant_of-self
 invariant_of-self g c =
     let p = c.args.self.now in let first = c.store.ensures.2 c.args.row c.position-place_word.ensures in
     let w : PassView g.row.P-Row.Denot g.row.P-Book.Denot g.row.P-Entry.Denot = prepared (view p.seat.me) c.args.row (place_shown c.position_word-spelled.result) c.args.generation in
-    let k : Kept p.number p.rows c.store-2.new.seat.me p.stack.items = kept_by p.number p.rows c.store-2.new.seat.me p.stack.items w
+    let k : Kept p.number p.rows c.store-2.new.seat.table_id c.store-2.new.seat.me p.stack.items = kept_by p.number p.rows p.seat.table_id c.store-2.new.seat.table_id c.store-2.new.seat.me p.stack.items w (c.store-2.ensures.0 ∙ c.store.ensures.0)
     (c.store-2.ensures.2 c.args.row c.generation-number_word.ensures ∙ (ap (λ (m : Seat g.row.P-Row.Denot g.row.P-Book.Denot g.row.P-Entry.Denot). (numbered (view m) c.args.row c.args.generation ∷ [], m.1)) first ∙ ap (λ (cs : _). (w ∷ [], cs)) p.stacked))
-    p.one.1 p.carries p.held in
+    p.one.1 (sized_prepared p.sized c.args.row _ c.args.generation) p.carries p.held in
     record {
       one = k.one;
-      slots = ap (λ (x : _). x.slots) (c.store-2.ensures.0 ∙ c.store.ensures.0) ∙ p.slots;
+      sized = k.sized;
       stacked = k.stacked;
       carries = k.carries;
       held = k.held;
@@ -47,4 +48,4 @@ returns-clause-sets_up g c =
     let v : PassView g.row.P-Row.Denot g.row.P-Book.Denot g.row.P-Entry.Denot = view c.args.self.now.seat.me in
     view_of _ _ _ (c.store-2.ensures.2 c.args.row c.generation-number_word.ensures)
     ∙ (ap (λ (u : PassView g.row.P-Row.Denot g.row.P-Book.Denot g.row.P-Entry.Denot). numbered u c.args.row c.args.generation) (view_of _ _ _ (c.store.ensures.2 c.args.row c.position-place_word.ensures))
-    ∙ ap (λ (q : _). prepared v c.args.row q c.args.generation) (spelled_is c.args.place _ c.requires.guard.is_place c.position_word-spelled.ensures))
+    ∙ ap (λ (q : _). prepared v c.args.row q c.args.generation) (spelled_is v.layout c.args.place _ c.requires.guard.is_place c.position_word-spelled.ensures))
