@@ -14,4 +14,5 @@ pub mod Calls
 pub mod Rooms
 pub mod Close
 pub mod Start
+pub mod Passes
 pub mod Tally
