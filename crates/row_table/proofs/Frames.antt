@@ -106,6 +106,8 @@ module _ {R B E : Type 0} where
       rows = λ x i. let o = old.rows x i in let z = same.rows x.row o.there in record { there = o.there; shown = z.words ∙ o.shown; place = z.place ∙ o.place; agrees = o.agrees };
       granted = old.granted;
       hand = λ x i. let o = old.hand x i in record { there = o.there; shown = (same.rows x.row o.there).generation ∙ o.shown; below = o.below; fresh = o.fresh };
+      vacant = old.vacant;
+      placed = λ x i p e. (same.rows x.row (old.hand x i).there).place ∙ old.placed x i p e;
       found = old.found;
       origin = old.origin;
       seen = old.seen;

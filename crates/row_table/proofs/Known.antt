@@ -1,39 +1,29 @@
 -- What the rule says of a row that a pass looks at or grabs, and which rows a pass keeps as there.
-use Rattle.std.proofs.Common.{◌≡◌, ◌≢◌, ℕ, ◌+◌, ◌*◌, ◌<◌, ◌≤◌, ◌⊎◌, ◌&&◌, Bool, true, false, cond, eqb, not, List, [], ◌∷◌, ◌++◌, get_or, sym, refl, ap, ◌∙◌, subst, inl, inr, ⊎_elim, arith, Option, Some, None}
-use Rattle.std.specs.List.{Contains, filter}
-use Rattle.std.proofs.lemmas.List.Elements.{Contains-push_cases}
-use Rattle.std.proofs.lemmas.Bool.{and_parts, cases_lt}
+use Rattle.std.proofs.Common.{◌≡◌, ◌≢◌, ℕ, ◌<◌, true, List, get_or, sym, ap, ◌∙◌, subst, inl, inr, ⊎_elim, arith}
+use Rattle.std.specs.List.{Contains}
+use Rattle.std.proofs.lemmas.Bool.{cases_lt}
 use Rattle.std.proofs.lemmas.List.{get_or_past}
 use mathlib.Core.Option.{some}
 use mathlib.Core.Logic.{dite}
 use native.Mathlib.Decide.{ℕ_discrete}
 use lib.ListN.{get_elem?}
-use Rattle.atomic_table.specs.Seated.{TableId}
-use Rattle.table_place.specs.declared.Place.{Place}
 use Rattle.table_place.specs.Place.{entry_place}
 use Rattle.walk_core.specs.declared.pass.PassCore.{PassCore}
-use Rattle.walk_core.specs.declared.pass.Stand.{Stand}
-use Rattle.walk_core.specs.Words.{entry_at, lock_at, is_link, link_row, link_generation, held_by, stale}
+use Rattle.walk_core.specs.Words.{entry_at, lock_at, is_link, link_row, held_by, stale}
 use Rattle.walk_core.specs.Lists.{Has, times}
 use Rattle.walk_core.specs.Core.{Core, pass_at, idle, IsLinked}
-use Rattle.walk_core.specs.Events.{stand_after_look}
-use Rattle.walk_core.specs.Guards.{StandsOn}
 use Rattle.walk_core.specs.Good.{Good, LockSays, says_free, says_held, says_stale}
 use Rattle.walk_core.proofs.RowLists.{times-nil}
 use Rattle.walk_core.proofs.Tree.{names_there, names_linked}
 use Rattle.row_layout.specs.declared.places.Layout.{Layout}
-use Rattle.row_layout.specs.Places.{word_count}
 use Rattle.row_table.specs.declared.view.PassView.{PassView}
 use Rattle.row_table.specs.declared.view.HeldRow.{HeldRow}
 use Rattle.row_table.specs.Plan.{Meaning}
 use Rattle.row_table.specs.Rows.{row_words, place_at}
 use Rattle.row_table.specs.Rule.{Table, levels_of, core_of, Holds}
-use Rattle.row_table.specs.Known.{LinksRow, IsKnownPlace, IsHolder, IsLoose, LinksBelow, IsSized}
-use Rattle.row_table.specs.Moves.{grabbed, MayGrab}
-use Rattle.row_table.specs.Looks.{MayLook}
-use Rattle.row_table.specs.Stack.{AreRows}
+use Rattle.row_table.specs.Known.{LinksRow, IsKnownPlace, IsHolder, IsLoose, LinksBelow}
 use Rattle.row_table.proofs.Shown.{word_at}
-use Rattle.row_table.proofs.Views.{kept, pass_is, has_held}
+use Rattle.row_table.proofs.Views.{pass_is, has_held}
 
 -- a pass that holds a row is there
 pub held_below : (c : Core) (p r : ℕ) → Good c → Has (pass_at c p).held r → p < c.count

@@ -3,11 +3,13 @@ pub mod Shown
 pub mod Frames
 pub mod Views
 pub mod Locks
+pub mod Beside
 pub mod Known
 pub mod Told
 pub mod Start
 pub mod Spans
 pub mod Regions
+pub mod Vacant
 pub mod Turns
 pub mod Sizes
 pub mod End
@@ -15,3 +17,6 @@ pub mod Tally
 pub mod Crossings
 pub mod Looks
 pub mod Marks
+pub mod Openings
+pub mod Links
+pub mod Sized

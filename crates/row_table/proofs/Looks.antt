@@ -57,6 +57,8 @@ module _ {R B E : Type 0} (M : Meaning R B E) where
         rows = λ y j. let o = know.rows y j in record { there = o.there; shown = o.shown; place = o.place; agrees = o.agrees };
         granted = know.granted;
         hand = know.hand;
+        vacant = know.vacant;
+        placed = know.placed;
         found = know.found;
         origin = know.origin;
         seen = know.seen;

@@ -1,9 +1,8 @@
 -- The sizes that a pass keeps, after each step.
-use Rattle.std.proofs.Common.{◌≡◌, ℕ, ◌+◌, ◌<◌, ◌≤◌, ◌⊎◌, ◌&&◌, Bool, true, false, cond, eqb, not, List, [], ◌∷◌, ◌++◌, sym, refl, ap, ◌∙◌, subst, ⊎_elim, arith, Option, Some, None}
-use Rattle.std.specs.List.{Contains, filter}
+use Rattle.std.proofs.Common.{◌≡◌, ℕ, ◌+◌, ◌<◌, ◌&&◌, Bool, true, false, cond, eqb, not, List, sym, refl, ap, subst, ⊎_elim, arith, Option, Some, None}
+use Rattle.std.specs.List.{Contains}
 use Rattle.std.proofs.lemmas.List.Elements.{Contains-push_cases}
 use Rattle.std.proofs.lemmas.Bool.{and_parts, cases_lt}
-use mathlib.Core.Option.{some}
 use Rattle.atomic_table.specs.Seated.{TableId}
 use Rattle.table_place.specs.declared.Place.{Place}
 use Rattle.table_place.specs.Place.{entry_place}
@@ -19,8 +18,8 @@ use Rattle.row_table.specs.declared.view.HeldRow.{HeldRow}
 use Rattle.row_table.specs.Plan.{Meaning}
 use Rattle.row_table.specs.Rule.{levels_of, unmoved}
 use Rattle.row_table.specs.Known.{LinksRow, LinksBelow, IsSized}
-use Rattle.row_table.specs.Moves.{grabbed, looked, got, released, Finds, MayGrab}
-use Rattle.row_table.specs.Looks.{looked_at, Reads, MayLook}
+use Rattle.row_table.specs.Moves.{grabbed, looked, got, released, MayGrab}
+use Rattle.row_table.specs.Looks.{looked_at, MayLook}
 use Rattle.row_table.specs.Crossings.{entered, left}
 use Rattle.row_table.specs.Books.{given, turned, waited, gave}
 use Rattle.row_table.specs.Stack.{AreRows}

@@ -209,6 +209,8 @@ module _ {R B E : Type 0} (M : Meaning R B E) where
               rows = λ h i. let less = i.1 in absurd (omega arith);
               granted = refl;
               hand = λ x i. let less = i.1 in absurd (omega arith);
+              vacant = λ h i. let less = i.1 in absurd (omega arith);
+              placed = λ x i. let less = i.1 in absurd (omega arith);
               found = λ h. absurd (cc);
               origin = refl;
               seen = (M.journal book, refl);

@@ -29,10 +29,11 @@ use Rattle.row_table.specs.declared.view.HeldRow.{HeldRow}
 use Rattle.row_table.specs.declared.view.HandRow.{HandRow}
 use Rattle.row_table.specs.Plan.{Meaning, Region}
 use Rattle.row_table.specs.Rule.{Slot, Seat, levels_of, StartsWith, SameRows, view, own_places, core_of, Agrees}
+use Rattle.row_table.specs.Vacant.{vacant_entries}
 use Rattle.row_table.specs.Moves.{NotInHand}
 
 abbrev pub given : {R : Type 0} → HeldRow R → HeldRow R
-given h = record h { is_given = true }
+given h = record h { is_given = true; vacant = vacant_entries h.words }
 
 module _ {R B E : Type 0} where
   -- The region of a pass
@@ -91,7 +92,7 @@ module _ {R B E : Type 0} where
 
     -- the rows that a give grants, by the generation of each
     abbrev pub hand_rows : (ℕ → ℕ) → B → B → List ℕ → List HandRow
-    hand_rows generation old new rows = map (λ r. record { row = r; generation = generation r; low = M.next_generation old; high = M.next_generation new }) rows
+    hand_rows generation old new rows = map (λ r. record { row = r; generation = generation r; low = M.next_generation old; high = M.next_generation new; place = None }) rows
 
     abbrev pub gave : PassView R B E → B → B → (ℕ → ℕ) → PassView R B E
     gave v old new generation = record v {

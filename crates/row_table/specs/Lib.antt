@@ -1,5 +1,6 @@
 pub mod Plan
 pub mod Rows
+pub mod Vacant
 pub mod Rule
 pub mod Known
 pub mod Moves
@@ -7,6 +8,8 @@ pub mod Stack
 pub mod Books
 pub mod Crossings
 pub mod Looks
+pub mod Openings
+pub mod Links
 pub mod Calls
 pub mod Rooms
 pub mod Close

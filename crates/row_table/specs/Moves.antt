@@ -5,7 +5,7 @@
 --     GrabSays, GrabTells, ReleaseTells      what a step tells its seat
 --     NotInHand, MayGrab      a row is not in the pass's hand;  when a pass may grab
 --     Fits, MayRelease      a content that may stand in a row;  when a pass may release
-use Rattle.std.specs.Prelude.{◌≡◌, ◌≢◌, ℕ, ◌≤◌, not, true, false, ◌⊎◌, List, [], ◌∷◌, ◌++◌, slice_index, nat_eq, Option, None, Some}
+use Rattle.std.specs.Prelude.{◌≡◌, ◌≢◌, ℕ, ◌≤◌, not, true, false, ◌⊎◌, List, [], ◌∷◌, ◌++◌, nat_eq, Option, None, Some}
 use Rattle.std.specs.List.{Contains, filter}
 use Rattle.atomic_table.specs.Table.{Step, rest}
 use Rattle.table_place.specs.declared.Place.{Place}
@@ -25,7 +25,7 @@ abbrev pub finding : ℕ → Place → Option ℕ → ℕ → Finding
 finding row place index word = record { row = row; place = place; index = index; word = word }
 
 abbrev pub grabbed : {R : Type 0} → ℕ → Place → List ℕ → R → HeldRow R
-grabbed row place words found = record { row = row; place = place; words = words; words_found = words; found = found; is_given = false }
+grabbed row place words found = record { row = row; place = place; words = words; words_found = words; found = Some found; is_given = false; vacant = [] }
 
 module _ {R B E : Type 0} where
   abbrev pub looked : PassView R B E → ℕ → Place → Option ℕ → ℕ → PassView R B E
@@ -81,5 +81,5 @@ module _ {R B E : Type 0} where
     pub known : HeldRow R
     pub held : Contains v.rows known
     pub same_row : known.row ≡ row
-    pub content_fits : ((known.is_given ≡ false) × (content ≡ known.found) × (known.words ≡ known.words_found))
+    pub content_fits : ((known.is_given ≡ false) × (known.found ≡ Some content) × (known.words ≡ known.words_found))
         ⊎ ((known.is_given ≡ true) × ((book : B) × (v.last ≡ Some book) × M.agrees book known.place known.words content))

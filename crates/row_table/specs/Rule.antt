@@ -17,6 +17,7 @@ use mathlib.Core.Option.{some}
 use mathlib.Core.Option as maybe
 use lib.ListN.{get_elem?}
 use Rattle.atomic_table.specs.Table.{State, Me}
+use Rattle.table_place.specs.declared.Place.{Place}
 use Rattle.walk_core.specs.declared.pass.PassCore.{PassCore}
 use Rattle.walk_core.specs.Words.{epoch_at, book_at, stale}
 use Rattle.walk_core.specs.Lists.{times}
@@ -29,6 +30,7 @@ use Rattle.row_table.specs.declared.view.PassView.{PassView}
 use Rattle.row_table.specs.declared.view.HeldRow.{HeldRow}
 use Rattle.row_table.specs.declared.view.HandRow.{HandRow}
 use Rattle.row_table.specs.Plan.{Meaning}
+use Rattle.row_table.specs.Vacant.{KeepsVacant}
 use Rattle.row_table.specs.Rows.{row_words, place_at, lock_of, generation_of}
 
 abbrev pub Slot : Type 0 → Type 0 → Type 0
@@ -109,7 +111,7 @@ module _ {R B E : Type 0} where
 
     -- While the pass has given no book since the grab, what the grab found agrees with the book. Afterwards whatever agrees with the book that the pass gave last agrees with the book.
     pub record Agrees (book : B) (last : Option B) (h : HeldRow R) : Type 0 where
-      pub found : h.is_given ≡ false → M.agrees book h.place h.words_found h.found
+      pub found : h.is_given ≡ false → (x : R) → h.found ≡ Some x → M.agrees book h.place h.words_found x
       pub given : h.is_given ≡ true → (a : B) → last ≡ Some a → (words : List ℕ) (x : R) → M.agrees a h.place words x → M.agrees book h.place words x
 
     -- a row of the pass's hand is not linked, and agrees with nothing yet
@@ -123,7 +125,7 @@ module _ {R B E : Type 0} where
     pub record IsHandRow (k : Layout) (words : List ℕ) (book : B) (x : HandRow) : Type 0 where
       pub there : x.row < k.rows
       pub shown : generation_of words x.row ≡ x.generation
-      pub below : x.generation < x.low
+      pub below : x.generation < x.high
       pub fresh : x.high ≤ M.next_generation book
 
     pub record Knows (k : Layout) (first : B) (words : List ℕ) (book : B) (v : PassView R B E) : Type 0 where
@@ -134,6 +136,8 @@ module _ {R B E : Type 0} where
       pub rows : (h : HeldRow R) → Contains v.rows h → IsHeldRow k words book v h
       pub granted : map hand_part v.hand ≡ granted_rows v.core
       pub hand : (x : HandRow) → Contains v.hand x → IsHandRow k words book x
+      pub vacant : (h : HeldRow R) → Contains v.rows h → times_in_hand h.row v.core ≡ 0 → KeepsVacant M (levels_of k) book v.last h
+      pub placed : (x : HandRow) → Contains v.hand x → (p : Place) → x.place ≡ Some p → place_at words x.row ≡ p
       pub found : v.core.has_book ≡ true → v.found ≡ Some book
       pub origin : v.origin ≡ Some first
       pub seen : StartsWith (M.journal book) v.seen

@@ -1,11 +1,10 @@
-use Rattle.std.proofs.Common.{rules, arith, ◌<◌, [], ◌∷◌, sym, ap, ◌∙◌, subst}
+use Rattle.std.proofs.Common.{rules, arith, sym, ap, ◌∙◌, subst}
 use Rattle.walk_core.specs.Words.{epoch_at}
 use Rattle.row_layout.specs.declared.places.Layout.{Layout}
-use Rattle.row_table.specs.declared.view.PassView.{PassView}
 use Rattle.row_table.specs.Rule.{Seat, view, IsOne}
 use Rattle.row_table.specs.Crossings.{entered}
 use Rattle.row_table.proofs.Crossings.{reads_at, enters_at}
-use Rattle.row_table.proofs.Sizes.{same_sizes, sized_enter}
+use Rattle.row_table.proofs.Sizes.{same_sizes}
 use Rattle.row_table.proofs.Told.{Kept, kept_by, view_of}
 use Rattle.row_table.proofs.pass.Pass.enter.Goals as goal
 
