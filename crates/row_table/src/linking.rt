@@ -1,7 +1,7 @@
 //! Set entry and unlink.
 ghost use Rattle.std.specs.Prelude.{◌≡◌};
 ghost use Rattle.walk_core.specs.Lists.{Has};
-ghost use Rattle.row_table.specs.Rule.{view};
+ghost use Rattle.row_table.specs.Passes.{view_of, kit_of, table_of, IsPassOf};
 ghost use Rattle.row_table.specs.Links.{MaySetEntry, Sets, MayUnlink, Unlinks};
 
 use crate::pass::Pass;
@@ -30,12 +30,12 @@ impl<R: Drop, B: Drop, E> Play<Option<Content<R, B>>, LinkedList<PassView<R, B, 
 impl<P: Plan> Pass<P> {
     /// Writes an entry of a row that the pass holds. A row that the word links is in the tree from then on.
     pub fn set_entry(&mut self, iron: &Iron<P>, row: u32, index: u32, word: u64)
-        requires table { self.old.seat.table_id ≡ iron.now.table.shared.table_id }
-        requires held { Has (view self.old.seat.me).core.held row }
-        requires guard { MaySetEntry (view self.old.seat.me) row index word }
-        ensures table { self.new.seat.table_id ≡ self.old.seat.table_id }
-        ensures same { (self.new.number ≡ self.old.number) × (self.new.kit ≡ self.old.kit) }
-        ensures sets { Sets row index word (view self.old.seat.me) (view self.new.seat.me) }
+        requires table { IsPassOf iron.now self.old }
+        requires held { Has (view_of self.old).core.held row }
+        requires guard { MaySetEntry (view_of self.old) row index word }
+        ensures table { table_of self.new ≡ table_of self.old }
+        ensures same { kit_of self.new ≡ kit_of self.old }
+        ensures sets { Sets row index word (view_of self.old) (view_of self.new) }
     {
         let place = iron.layout.entry(row, index) as usize;
         iron.table
@@ -45,12 +45,12 @@ impl<P: Plan> Pass<P> {
 
     /// Takes a row without entries out of the tree: the entry that links it is 0 from then on.
     pub fn unlink(&mut self, iron: &Iron<P>, row: u32, index: u32)
-        requires table { self.old.seat.table_id ≡ iron.now.table.shared.table_id }
-        requires held { Has (view self.old.seat.me).core.held row }
-        requires guard { MayUnlink (view self.old.seat.me) row index }
-        ensures table { self.new.seat.table_id ≡ self.old.seat.table_id }
-        ensures same { (self.new.number ≡ self.old.number) × (self.new.kit ≡ self.old.kit) }
-        ensures unlinks { Unlinks row index (view self.old.seat.me) (view self.new.seat.me) }
+        requires table { IsPassOf iron.now self.old }
+        requires held { Has (view_of self.old).core.held row }
+        requires guard { MayUnlink (view_of self.old) row index }
+        ensures table { table_of self.new ≡ table_of self.old }
+        ensures same { kit_of self.new ≡ kit_of self.old }
+        ensures unlinks { Unlinks row index (view_of self.old) (view_of self.new) }
     {
         let place = iron.layout.entry(row, index) as usize;
         iron.table.shared.store::<Cut>(&mut self.seat, place, 0);

@@ -1,7 +1,7 @@
 //! Set up and open row.
 ghost use Rattle.std.specs.Prelude.{◌≡◌, ◌<◌, ◌^◌};
 ghost use Rattle.walk_core.specs.Words as words;
-ghost use Rattle.row_table.specs.Rule.{view};
+ghost use Rattle.row_table.specs.Passes.{view_of, kit_of, table_of, layout_of, IsPassOf};
 ghost use Rattle.row_table.specs.Openings.{MaySetUp, MayOpen, Opens, prepared};
 
 use crate::pass::Pass;
@@ -51,12 +51,12 @@ fn position_word(place: Place) -> u64
 impl<P: Plan> Pass<P> {
     /// Writes the position and the generation of a row that the pass was granted. The row can be opened then.
     pub fn set_up(&mut self, iron: &Iron<P>, row: u32, place: Place, generation: u64)
-        requires table { self.old.seat.table_id ≡ iron.now.table.shared.table_id }
-        requires row { row < iron.now.layout.rows }
-        requires guard { MaySetUp (view self.old.seat.me) row place generation }
-        ensures table { self.new.seat.table_id ≡ self.old.seat.table_id }
-        ensures same { (self.new.number ≡ self.old.number) × (self.new.kit ≡ self.old.kit) }
-        ensures sets_up { view self.new.seat.me ≡ prepared (view self.old.seat.me) row place generation }
+        requires table { IsPassOf iron.now self.old }
+        requires row { row < (layout_of iron.now).rows }
+        requires guard { MaySetUp (view_of self.old) row place generation }
+        ensures table { table_of self.new ≡ table_of self.old }
+        ensures same { kit_of self.new ≡ kit_of self.old }
+        ensures sets_up { view_of self.new ≡ prepared (view_of self.old) row place generation }
     {
         let place_word = iron.layout.position(row) as usize;
         let spelled = position_word(place);
@@ -71,12 +71,12 @@ impl<P: Plan> Pass<P> {
 
     /// Takes a row that the pass was granted and has set up. Its content is blank.
     pub fn open_row(&mut self, iron: &Iron<P>, row: u32) -> P::Row
-        requires table { self.old.seat.table_id ≡ iron.now.table.shared.table_id }
-        requires row { row < iron.now.layout.rows }
-        requires guard { MayOpen (view self.old.seat.me) row }
-        ensures table { self.new.seat.table_id ≡ self.old.seat.table_id }
-        ensures same { (self.new.number ≡ self.old.number) × (self.new.kit ≡ self.old.kit) }
-        ensures opens { Opens P.meaning row (view self.old.seat.me) result (view self.new.seat.me) }
+        requires table { IsPassOf iron.now self.old }
+        requires row { row < (layout_of iron.now).rows }
+        requires guard { MayOpen (view_of self.old) row }
+        ensures table { table_of self.new ≡ table_of self.old }
+        ensures same { kit_of self.new ≡ kit_of self.old }
+        ensures opens { Opens P.meaning row (view_of self.old) result (view_of self.new) }
     {
         let word = iron.layout.lock(row) as usize;
         let mine = u64::from(self.number) + 1;
