@@ -4,7 +4,7 @@ ghost use Rattle.std.specs.List.{range_with_len};
 ghost use Rattle.std.specs.FinSet as set;
 ghost use Rattle.table_place.specs.Place.{above, is_above, is_inside, prefix_first, prefix_count};
 ghost use Rattle.page_map.specs.Tables.{need};
-ghost use Rattle.plain_counts.specs.Levels.{tables_of, is_in_level};
+ghost use Rattle.plain_counts.specs.Levels.{tables_of, is_in_level, is_elsewhere};
 
 use std::alloc::{AllocError, Global};
 use std::collections::BTreeSet;
@@ -261,5 +261,12 @@ impl Tables {
         ensures { self.new ≡ set.retain self.old (λ p. not (is_inside 4 space first count p)) }
     {
         self.places.retain(|p| !is_covered(p, space, first, count));
+    }
+
+    /// Removes the tables of a space.
+    pub fn remove_space(&mut self, space: u8)
+        ensures { self.new ≡ set.retain self.old (is_elsewhere space) }
+    {
+        self.places.retain(|p| p.space != space);
     }
 }

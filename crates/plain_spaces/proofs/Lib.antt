@@ -11,3 +11,9 @@ pub mod Nexts
 pub mod Followed
 pub mod Vacant
 pub mod Files
+pub mod Keys
+pub mod FirstPages
+pub mod Swaps
+pub mod Swapped
+pub mod Copied
+pub mod NewTables

@@ -3,3 +3,5 @@ pub mod Reach
 pub mod Wants
 pub mod Backing
 pub mod NewPages
+pub mod Swapping
+pub mod Copies

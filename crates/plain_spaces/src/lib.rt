@@ -2,12 +2,14 @@
 #![tactic(auto)]
 
 mod access;
+mod copy;
 mod plan;
 mod protect;
 mod release;
 mod replace;
 mod space;
 mod spaces;
+mod swap;
 
 pub use access::{Access, Stop};
 pub use plan::{Plan, Want};

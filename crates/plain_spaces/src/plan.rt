@@ -79,7 +79,7 @@ impl Want {
 }
 
 /// The permissions of a page.
-fn permissions(cell: &Cell) -> Perm
+pub(crate) fn permissions(cell: &Cell) -> Perm
     ensures { result ≡ perm_of cell.now }
 {
     match cell {
