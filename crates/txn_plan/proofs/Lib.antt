@@ -2,3 +2,5 @@ pub mod Covering
 pub mod Leasts
 pub mod Judging
 pub mod Needing
+pub mod Growing
+pub mod Acting

@@ -2,10 +2,13 @@
 //! needs, and the cells after it. The work is that of the pages that are there and of at most 16 ranges.
 #![tactic(auto)]
 
+mod act;
 mod judge;
+mod make;
 mod need;
 mod operation;
 mod pieces;
 
+pub use act::apply;
 pub use judge::first_undone;
 pub use need::tables_needed;
