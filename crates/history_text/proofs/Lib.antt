@@ -1,6 +1,7 @@
 pub mod Beginnings
 pub mod Bodies
 pub mod Closings
+pub mod ByteCells
 pub mod CountLines
 pub mod Names
 pub mod OneEntry

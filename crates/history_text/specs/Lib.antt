@@ -2,6 +2,7 @@ pub mod Accounting
 pub mod Checking
 pub mod HistoryText
 pub mod Outcomes
+pub mod Reading
 pub mod Replies
 pub mod ReplyNames
 pub mod Writing

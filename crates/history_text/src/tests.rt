@@ -37,8 +37,31 @@ fn is_printed_again(alloc: Global, line: &[u8]) -> Result<bool, AllocError> {
 
 #[test]
 fn entries_are_printed_as_read(rt: HostRuntime) -> Result<(), Fail> {
-    assert!(rt; is_printed_again(rt.alloc(), b"0 load 0 0x0 1 = segv 0x0")?);
-    assert!(rt; is_printed_again(rt.alloc(), b"7 map 0 any 1 rw- zero = notables 1 2 3")?);
+    for line in [
+        b"7 map 0 any 1 rw- zero = ok".as_slice(),
+        b"0 load 0 0x0 1 = at 0x8000000000".as_slice(),
+        b"0 load 0 0x0 1 = bytes 00ff".as_slice(),
+        b"0 load 0 0x0 1 = space 63".as_slice(),
+        b"0 load 0 0x0 1 = moved 4294967295".as_slice(),
+        b"0 load 0 0x0 1 = done".as_slice(),
+        b"0 load 0 0x0 1 = undone 1 einval".as_slice(),
+        b"0 load 0 0x0 1 = undone 16 exists 0x1000".as_slice(),
+        b"0 load 0 0x0 1 = undone 2 hole 0x1000".as_slice(),
+        b"0 load 0 0x0 1 = einval".as_slice(),
+        b"0 load 0 0x0 1 = nospace".as_slice(),
+        b"0 load 0 0x0 1 = nospaces".as_slice(),
+        b"0 load 0 0x0 1 = noroom".as_slice(),
+        b"0 load 0 0x0 1 = exists 0x1000".as_slice(),
+        b"0 load 0 0x0 1 = hole 0x1000".as_slice(),
+        b"0 load 0 0x0 1 = segv 0x0".as_slice(),
+        b"0 load 0 0x0 1 = denied 0x1000".as_slice(),
+        b"0 load 0 0x0 1 = bus 0x1000".as_slice(),
+        b"0 load 0 0x0 1 = notables 1 2 18446744073709551615".as_slice(),
+        b"0 load 0 0x0 1 = noframes 1 2".as_slice(),
+        b"0 load 0 0x0 1 = noswap 1 2".as_slice(),
+    ] {
+        assert!(rt; is_printed_again(rt.alloc(), line)?);
+    }
     Ok(())
 }
 
@@ -76,8 +99,13 @@ fn spellings_of_no_entry(rt: HostRuntime) -> Result<(), Fail> {
         b"0 load 0 0x0 1 = ok ".as_slice(),
         b"0 load 0 0x0 1 =ok".as_slice(),
         b"0 load 0 0x0 1".as_slice(),
-        b"0 load 0 0x0 1 = nospace".as_slice(),
         b"0 load 0 0x0 1 = bytes".as_slice(),
+        b"0 load 0 0x0 1 = space 64".as_slice(),
+        b"0 load 0 0x0 1 = moved 4294967296".as_slice(),
+        b"0 load 0 0x0 1 = undone 0 einval".as_slice(),
+        b"0 load 0 0x0 1 = undone 17 einval".as_slice(),
+        b"0 load 0 0x0 1 = undone 1 nospace".as_slice(),
+        b"0 load 0 0x0 1 = noswap 1".as_slice(),
         b"0 load 0 0x0 1 = notables 1 4294967296 3".as_slice(),
         b"0 spawn = space 1".as_slice(),
     ] {
