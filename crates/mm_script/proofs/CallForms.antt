@@ -1,6 +1,5 @@
 -- The words of each form of call, taken apart: what no words of a call are.
-use Rattle.std.proofs.Common.{◌≡◌, ◌≢◌, ℕ, ◌<◌, ◌^◌, Bool, true, false, List, [], ◌∷◌, ◌++◌, length, codes, refl, sym, ap, ◌∙◌}
-use Rattle.std.specs.Prelude.{if◌then◌else◌}
+use Rattle.std.proofs.Common.{◌≡◌, ◌≢◌, ℕ, ◌<◌, Bool, false, List, [], ◌∷◌, ◌++◌, length, codes, refl, sym, ap, ◌∙◌}
 use Rattle.std.specs.List.{All}
 use Rattle.std.specs.Str.{bytes_eq}
 use Rattle.std.proofs.lemmas.Bool.{false≢true}
@@ -8,9 +7,7 @@ use Rattle.std.proofs.lemmas.List.{append_assoc}
 use Rattle.std.proofs.lemmas.Slice.Eq.{bytes_eq-Decides}
 use Rattle.corten_base.specs.declared.permissions.Perm.{Perm}
 use Rattle.corten_base.specs.declared.calls.MapPlace.{MapPlace}
-use Rattle.corten_base.specs.declared.calls.MapPlace.TheVariants as place
 use Rattle.corten_base.specs.declared.calls.Backing.{Backing}
-use Rattle.corten_base.specs.declared.calls.Backing.TheVariants as backing
 use Rattle.corten_base.specs.declared.calls.Call.{Call}
 use Rattle.corten_base.specs.declared.calls.Call.TheVariants as call
 use Rattle.text_words.specs.Spelling.{number, address, hex, permission}

@@ -13,11 +13,11 @@ use Rattle.corten_base.specs.declared.calls.Backing.TheVariants as backing
 use Rattle.corten_base.specs.declared.calls.Call.{Call}
 use Rattle.corten_base.specs.declared.calls.Call.TheVariants as call
 use Rattle.text_words.specs.Layout.{HasNo, IsLine, joined, words_of}
-use Rattle.text_words.specs.Spelling.{number, address, hex, permission}
+use Rattle.text_words.specs.Spelling.{number, address, permission}
 use Rattle.text_words.proofs.OneValue.{number_injective, address_injective, hex_injective, permission_injective}
 use Rattle.text_words.proofs.SpelledBytes.{IsNoDigit-below, HasNo-number, HasNo-address, HasNo-hex, HasNo-permission, HasNo-joined}
 use Rattle.text_words.proofs.WordLists.{joined-words_of, words_of-joined}
-use Rattle.mm_script.specs.CallLine.{place_words, backing_words, access_word, call_words, call_line, IsSpace, IsNumber, IsPlace, IsBacking, IsAccess, IsWithin, IsCall}
+use Rattle.mm_script.specs.CallLine.{place_words, backing_words, access_word, call_words, call_line, IsSpace, IsNumber, IsPlace, IsBacking, IsCall}
 use Rattle.mm_script.proofs.CallForms.{other_word, map_words-append, no_words}
 
 -- the same call, and the same words behind it
@@ -42,6 +42,13 @@ same_place (place.At at) place.Any x y ha hb same = absurd (other_word (codes "a
 same_place (place.At at) (place.New at') x y ha hb same = absurd (other_word (codes "at") (codes "new") _ _ refl same)
 same_place (place.New at) place.Any x y ha hb same = absurd (other_word (codes "new") (codes "any") _ _ refl same)
 same_place (place.New at) (place.At at') x y ha hb same = absurd (other_word (codes "new") (codes "at") _ _ refl same)
+
+-- no number stands behind a place
+pub no_length : (words behind_space behind_place rest : List (List ℕ)) (space space' len : ℕ) (at at' : MapPlace) → IsPlace at → IsPlace at' → words ≡ number space ∷ behind_space → behind_space ≡ place_words at ++ behind_place → IsNumber len
+    → ((n : ℕ) (more : List (List ℕ)) → IsNumber n → behind_place ≢ number n ∷ more) → words ≢ number space' ∷ (place_words at' ++ number len ∷ rest)
+no_length words behind_space behind_place rest space space' len at at' ha hb space_is place_is fits none are =
+    let both : number space ∷ (place_words at ++ behind_place) ≡ number space' ∷ (place_words at' ++ number len ∷ rest) = ap (λ ws. number space ∷ ws) (sym place_is) ∙ sym space_is ∙ are in
+    none len rest fits (same_place at at' behind_place (number len ∷ rest) ha hb (cc both)).1
 
 same_file : (file index file' index' : ℕ) → file ≡ file' → index ≡ index' → backing.File file index ≡ backing.File file' index'
 same_file file index file' index' f n = λ i. backing.File (f i) (n i)

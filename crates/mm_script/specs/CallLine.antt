@@ -2,8 +2,7 @@
 --     call_words, call_line      the words of a call's line, and the line
 --     op_words, ops_words      the words of an operation of a transaction, and of all of them
 --     IsCall      the calls that have a line
-use Rattle.std.specs.Prelude.{◌≡◌, ℕ, ◌<◌, ◌≤◌, ◌^◌, Bool, ⊤, List, [], ◌∷◌, ◌++◌, length, codes, All, if◌then◌else◌}
-use Rattle.corten_base.specs.declared.permissions.Perm.{Perm}
+use Rattle.std.specs.Prelude.{ℕ, ◌<◌, ◌≤◌, ◌^◌, Bool, ⊤, List, [], ◌∷◌, ◌++◌, length, codes, All, if◌then◌else◌}
 use Rattle.corten_base.specs.declared.calls.MapPlace.{MapPlace}
 use Rattle.corten_base.specs.declared.calls.MapPlace.TheVariants as place
 use Rattle.corten_base.specs.declared.calls.Backing.{Backing}

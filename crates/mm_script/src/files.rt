@@ -14,6 +14,9 @@ use file_shelf::{MAX_FILE_BYTES, MAX_FILES, Shelf, ShelfFault};
 use std::alloc::{AllocError, Global};
 use text_words::{Lines, Word, Words, push_words, read_hex};
 
+/// The word of a file without a byte.
+const NO_BYTE: &[u8] = b"-";
+
 /// Whether a word has two digits for each byte of a file that is not empty. A longer one is not read, so that it takes no
 /// memory.
 fn is_file_long(word: &[u8]) -> bool
@@ -27,7 +30,7 @@ fn file_bytes(alloc: Global, word: &[u8]) -> Result<Option<Vec<u8>>, AllocError>
     ensures found { IfOk result (λ read. IfSome read (λ bytes. IsFile bytes.items × (word.now ≡ file_word bytes.items))) }
     ensures none { IfOk result (λ read. IfNone read ((bytes : List ℕ) → IsFile bytes → word.now ≢ file_word bytes)) }
 {
-    if word == b"-".as_slice() {
+    if word == NO_BYTE {
         return Ok(Some(Vec::new(alloc)));
     }
     if !is_file_long(word) {
@@ -98,7 +101,7 @@ pub fn push_file(out: &mut Vec<u8>, bytes: &[u8]) -> Result<(), AllocError>
     ensures err { OnErr result (out.new.items ≡ out.old.items) }
 {
     let word = if bytes.is_empty() {
-        Word::Plain(b"-")
+        Word::Plain(NO_BYTE)
     } else {
         Word::Hex(bytes)
     };

@@ -92,12 +92,12 @@ fn push_range(
 }
 
 /// Appends a call's name, a space, an address and a last word. Without memory nothing is appended.
-fn push_touch(
+fn push_touch<'a>(
     out: &mut Vec<u8>,
-    name: &[u8],
+    name: &'a [u8],
     space: SpaceId,
     at: u64,
-    last: Word<'_>,
+    last: Word<'a>,
 ) -> Result<(), AllocError>
     ensures ok { OnOk result (out.new.items ≡
         out.old.items ++ joined (name.now ∷ number space ∷ address at ∷ spelled last.entry ∷ [])) }
@@ -150,9 +150,7 @@ fn push_parts(out: &mut Vec<u8>, call: &Call) -> Result<(), AllocError>
             len,
             perm,
         } => push_protect(out, *space, *at, *len, *perm),
-        Call::Load { space, at, len } => {
-            push_range(out, b"load", *space, *at, u64::from(*len))
-        }
+        Call::Load { space, at, len } => { push_range(out, b"load", *space, *at, u64::from(*len)) }
         Call::Store { space, at, bytes } => {
             push_touch(out, b"store", *space, *at, Word::Hex(bytes.bytes()))
         }
