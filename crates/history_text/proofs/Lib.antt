@@ -1,7 +1,7 @@
 pub mod Beginnings
 pub mod Bodies
-pub mod Closings
 pub mod ByteCells
+pub mod Closings
 pub mod CountLines
 pub mod Names
 pub mod OneEntry
@@ -9,4 +9,7 @@ pub mod OneHistory
 pub mod OneReply
 pub mod OneVerdict
 pub mod Parts
+pub mod Reached
+pub mod Shelves
+pub mod Spelled
 pub mod Verdicts

@@ -1,5 +1,6 @@
 pub mod Accounting
 pub mod Checking
+pub mod Files
 pub mod HistoryText
 pub mod Outcomes
 pub mod Reading
