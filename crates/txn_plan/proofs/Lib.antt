@@ -4,3 +4,4 @@ pub mod Judging
 pub mod Needing
 pub mod Growing
 pub mod Acting
+pub mod Added

@@ -3,6 +3,7 @@
 #![tactic(auto)]
 
 mod act;
+mod adding;
 mod judge;
 mod make;
 mod need;
@@ -10,5 +11,6 @@ mod operation;
 mod pieces;
 
 pub use act::apply;
+pub use adding::add_tables;
 pub use judge::first_undone;
 pub use need::tables_needed;
