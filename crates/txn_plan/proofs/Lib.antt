@@ -5,3 +5,5 @@ pub mod Needing
 pub mod Growing
 pub mod Acting
 pub mod Added
+pub mod Unmapping
+pub mod Rights

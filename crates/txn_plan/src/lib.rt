@@ -4,6 +4,7 @@
 
 mod act;
 mod adding;
+mod forgetting;
 mod judge;
 mod make;
 mod need;
@@ -12,5 +13,6 @@ mod pieces;
 
 pub use act::apply;
 pub use adding::add_tables;
+pub use forgetting::forget_unmapped;
 pub use judge::first_undone;
 pub use need::tables_needed;
