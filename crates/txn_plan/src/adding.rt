@@ -51,7 +51,7 @@ fn missing_above(
 }
 
 /// Puts in the tables above the pages that these operations map, and lists those that were missing.
-pub fn add_tables(
+pub(crate) fn add_tables(
     alloc: Global,
     tables: &mut Tables,
     space: u8,

@@ -4,6 +4,7 @@
 
 mod act;
 mod adding;
+mod committing;
 mod forgetting;
 mod judge;
 mod make;
@@ -11,8 +12,7 @@ mod need;
 mod operation;
 mod pieces;
 
-pub use act::apply;
-pub use adding::add_tables;
+pub use committing::commit;
 pub use forgetting::forget_unmapped;
 pub use judge::first_undone;
 pub use need::tables_needed;
