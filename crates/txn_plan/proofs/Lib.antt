@@ -4,3 +4,6 @@ pub mod Judging
 pub mod Needing
 pub mod Growing
 pub mod Acting
+pub mod Added
+pub mod Unmapping
+pub mod Rights

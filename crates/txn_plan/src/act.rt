@@ -125,7 +125,7 @@ fn act_all(cells: &mut AddressSpace, ops: &[TxnOp], frames: &mut Owners, slots: 
 
 /// Makes the operations of a transaction in order, in the time of the pages that are there, those that are kept and the
 /// ranges. Only pages that are kept are made.
-pub fn apply(
+pub(crate) fn apply(
     alloc: Global,
     cells: &mut AddressSpace,
     ops: &[TxnOp],

@@ -3,12 +3,16 @@
 #![tactic(auto)]
 
 mod act;
+mod adding;
+mod committing;
+mod forgetting;
 mod judge;
 mod make;
 mod need;
 mod operation;
 mod pieces;
 
-pub use act::apply;
+pub use committing::commit;
+pub use forgetting::forget_unmapped;
 pub use judge::first_undone;
 pub use need::tables_needed;
