@@ -8,4 +8,4 @@ mod tables;
 
 pub use fronts::{ARENA_PAGES, Fronts};
 pub use owners::Owners;
-pub use tables::Tables;
+pub use tables::{Tables, prefixes};

@@ -46,7 +46,7 @@ fn span(level: u8) -> u64
 }
 
 /// The tables of one level, by their prefixes, that have a page of a range in their spans.
-fn prefixes(level: u8, first: u64, count: u64) -> Range<u64>
+pub fn prefixes(level: u8, first: u64, count: u64) -> Range<u64>
     requires below_root { level ≤ 4 }
     requires some { 0 < count }
     requires fits { first + count ≤ 2 ^ 36 }
@@ -119,7 +119,7 @@ impl Tables {
     }
 
     /// How many tables of one level there are, from one prefix up to another.
-    fn level_len(&self, space: u8, level: u8, prefixes: Range<u64>) -> usize
+    pub fn level_len(&self, space: u8, level: u8, prefixes: Range<u64>) -> usize
         requires { prefixes.start ≤ prefixes.end }
         ensures { result ≡ set.len (set.retain self.now (is_in_level space level prefixes.start (prefixes.end - prefixes.start))) }
     {
@@ -187,7 +187,7 @@ impl Tables {
     }
 
     /// The tables above a range of pages that are missing.
-    fn missing(
+    pub fn missing(
         &self,
         alloc: Global,
         space: u8,
@@ -206,7 +206,7 @@ impl Tables {
     }
 
     /// Puts in tables one by one, until memory is wanted.
-    fn insert_all(&mut self, places: &[Place]) -> Result<(), AllocError>
+    pub fn insert_all(&mut self, places: &[Place]) -> Result<(), AllocError>
         ensures ok { OnOk result (self.new ≡ set.union self.old (set.from_list places.now)) }
         ensures err { OnErr result ((k : ℕ) × (self.new ≡ set.union self.old (set.from_list (take k places.now)))) }
     {
