@@ -9,11 +9,11 @@ ghost use Rattle.page_map.specs.Change.{change};
 ghost use Rattle.plain_spaces.specs.NewPages.{Fits, AreWithin, new_at};
 ghost use Rattle.plain_spaces.specs.Reach.{IsCounted, Follows, Keeps};
 
-use crate::owners::Owners;
 use crate::release::give_up;
 use crate::space::{AddressSpace, new_cell};
 use corten_base::{Backing, Perm};
 use page_map::Cell;
+use plain_counts::Owners;
 use std::alloc::{AllocError, Global};
 use std::mem;
 

@@ -28,11 +28,12 @@ use Rattle.row_table.specs.declared.view.PassView.{PassView}
 use Rattle.row_table.specs.declared.view.HeldRow.{HeldRow}
 use Rattle.row_table.specs.declared.view.HandRow.{HandRow}
 use Rattle.row_table.specs.Plan.{Meaning, Region}
-use Rattle.row_table.specs.Rule.{Slot, Seat, levels, StartsWith, SameRows, view, own_places, core_of, Agrees}
+use Rattle.row_table.specs.Rule.{Slot, Seat, levels_of, StartsWith, SameRows, view, own_places, core_of, Agrees}
+use Rattle.row_table.specs.Vacant.{vacant_entries}
 use Rattle.row_table.specs.Moves.{NotInHand}
 
 abbrev pub given : {R : Type 0} → HeldRow R → HeldRow R
-given h = record h { is_given = true }
+given h = record h { is_given = true; vacant = vacant_entries h.words }
 
 module _ {R B E : Type 0} where
   -- The region of a pass
@@ -47,7 +48,7 @@ module _ {R B E : Type 0} where
     pub inside : index < 512
     pub link : is_link (slice_index linker.words index) ≡ true
     pub child_held : ¬ Has v.core.held (link_row (slice_index linker.words index))
-    pub place : p ≡ entry_place levels linker.place index
+    pub place : p ≡ entry_place (levels_of v.layout) linker.place index
 
   abbrev pub region : PassView R B E → Region
   region v = record {
@@ -91,7 +92,7 @@ module _ {R B E : Type 0} where
 
     -- the rows that a give grants, by the generation of each
     abbrev pub hand_rows : (ℕ → ℕ) → B → B → List ℕ → List HandRow
-    hand_rows generation old new rows = map (λ r. record { row = r; generation = generation r; low = M.next_generation old; high = M.next_generation new }) rows
+    hand_rows generation old new rows = map (λ r. record { row = r; generation = generation r; low = M.next_generation old; high = M.next_generation new; place = None }) rows
 
     abbrev pub gave : PassView R B E → B → B → (ℕ → ℕ) → PassView R B E
     gave v old new generation = record v {

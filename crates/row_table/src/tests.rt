@@ -1,5 +1,5 @@
 ghost use Rattle.std.specs.Prelude.{◌≡◌, ◌<◌, ℕ, length, IfOk, true};
-ghost use Rattle.row_table.specs.Rule.{view};
+ghost use Rattle.row_table.specs.Passes.{view_of, table_of, IsPassOf};
 ghost use Rattle.row_table.specs.Close.{IsIdle};
 
 use crate::{Grabbed, Iron, IronClose, Layout, Pass, Plan, Turned};
@@ -29,8 +29,8 @@ impl Plan for Tally {
 
 // A table of two rows, and its two passes.
 fn made(alloc: Global) -> Result<(Iron<Tally>, Pass<Tally>, Pass<Tally>), AllocError>
-    ensures first { IfOk result (λ r. (r.1.seat.table_id ≡ r.0.table.shared.table_id) × IsIdle (view r.1.seat.me)) }
-    ensures second { IfOk result (λ r. (r.2.seat.table_id ≡ r.0.table.shared.table_id) × IsIdle (view r.2.seat.me)) }
+    ensures first { IfOk result (λ r. IsPassOf r.0 r.1 × IsIdle (view_of r.1)) }
+    ensures second { IfOk result (λ r. IsPassOf r.0 r.2 × IsIdle (view_of r.2)) }
 {
     let mut rows = Vec::new(alloc);
     rows.push(0u8)?;
@@ -51,8 +51,8 @@ fn made(alloc: Global) -> Result<(Iron<Tally>, Pass<Tally>, Pass<Tally>), AllocE
 
 // The pass enters and tries row 0, on which it stands then.
 fn enter_and_grab(iron: &Iron<Tally>, pass: &mut Pass<Tally>) -> Option<Grabbed<u8>>
-    requires table { pass.old.seat.table_id ≡ iron.now.table.shared.table_id }
-    requires idle { IsIdle (view pass.old.seat.me) }
+    requires table { IsPassOf iron.now pass.old }
+    requires idle { IsIdle (view_of pass.old) }
 {
     if pass.number() >= iron.layout().passes {
         return None;
@@ -65,10 +65,10 @@ fn enter_and_grab(iron: &Iron<Tally>, pass: &mut Pass<Tally>) -> Option<Grabbed<
 
 // Takes the book, waiting for it, and adds an entry.
 fn note<R: Wait>(rt: &R, iron: &Iron<Tally>, pass: &mut Pass<Tally>, count: u32)
-    requires table { pass.old.seat.table_id ≡ iron.now.table.shared.table_id }
-    requires idle { IsIdle (view pass.old.seat.me) }
-    ensures table { pass.new.seat.table_id ≡ pass.old.seat.table_id }
-    ensures idle { IsIdle (view pass.new.seat.me) }
+    requires table { IsPassOf iron.now pass.old }
+    requires idle { IsIdle (view_of pass.old) }
+    ensures table { table_of pass.new ≡ table_of pass.old }
+    ensures idle { IsIdle (view_of pass.new) }
 {
     for _ in rt.forever() {
         match pass.turn(iron) {
@@ -85,10 +85,10 @@ fn note<R: Wait>(rt: &R, iron: &Iron<Tally>, pass: &mut Pass<Tally>, count: u32)
 
 // What one thread does.
 fn run<R: Wait>(rt: &R, iron: &Iron<Tally>, mut pass: Pass<Tally>) -> Pass<Tally>
-    requires table { pass.seat.table_id ≡ iron.now.table.shared.table_id }
-    requires idle { IsIdle (view pass.seat.me) }
-    ensures table { result.seat.table_id ≡ pass.seat.table_id }
-    ensures idle { IsIdle (view result.seat.me) }
+    requires table { IsPassOf iron.now pass }
+    requires idle { IsIdle (view_of pass) }
+    ensures table { table_of result ≡ table_of pass }
+    ensures idle { IsIdle (view_of result) }
 {
     for count in 0..1000 {
         note(rt, iron, &mut pass, count);

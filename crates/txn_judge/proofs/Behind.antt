@@ -19,7 +19,7 @@ use Rattle.page_map.specs.Mapping.{backed, op_first, op_pages, after_op, after_o
 use Rattle.page_map.proofs.Range.{get-change}
 use Rattle.page_map.proofs.Least.{least_passes, none_below_least}
 use Rattle.page_map.proofs.Named.{outside_op}
-use Rattle.plain_spaces.proofs.Least.{least_is, least_none}
+use Rattle.plain_counts.proofs.Least.{least_is, least_none}
 use Rattle.plain_spaces.proofs.Nexts.{none_passes}
 use Rattle.txn_judge.specs.Presence.{is_so, left_by}
 

@@ -7,7 +7,7 @@ pub give-requires-clause-may : goal.give-requires-clause-may
 give-requires-clause-may g c κs =
     let e = c.in-Got.ensures.turns.1 in let w : View = view c.turn.new.self.seat.me in
     let did = added _ c.in-Got.entries.items c.push.new.self.items (c.number.result, c.args.count) c.push.ensures.items in
-    let number : w.number ≡ c.number.result = c.turn.new.self.one.1 ∙ sym c.number.ensures in
+    let number : w.number ≡ c.number.result = sym c.number.ensures in
     record {
       old = c.in-Got.entries;
       found = ap (λ (v : View). v.found) e;

@@ -1,0 +1,4 @@
+pub mod Covering
+pub mod Leasts
+pub mod Judging
+pub mod Needing
