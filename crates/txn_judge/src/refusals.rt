@@ -54,7 +54,7 @@ fn why_undone(
 
 /// The first operation of a transaction over a range that is refused, counted from 1, and why. Each works on the cells that
 /// the ones before it leave. No page is made: the time is that of the cells that are there in the operations' ranges.
-pub fn first_refused(
+pub(crate) fn first_refused(
     cells: &AddressSpace,
     shelf: &Shelf,
     range: Range,
