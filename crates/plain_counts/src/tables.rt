@@ -187,7 +187,7 @@ impl Tables {
     }
 
     /// The tables above a range of pages that are missing.
-    fn missing(
+    pub fn missing(
         &self,
         alloc: Global,
         space: u8,
@@ -206,7 +206,7 @@ impl Tables {
     }
 
     /// Puts in tables one by one, until memory is wanted.
-    fn insert_all(&mut self, places: &[Place]) -> Result<(), AllocError>
+    pub fn insert_all(&mut self, places: &[Place]) -> Result<(), AllocError>
         ensures ok { OnOk result (self.new ≡ set.union self.old (set.from_list places.now)) }
         ensures err { OnErr result ((k : ℕ) × (self.new ≡ set.union self.old (set.from_list (take k places.now)))) }
     {

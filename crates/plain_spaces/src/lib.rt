@@ -14,5 +14,5 @@ mod swap;
 pub use access::{Access, Stop};
 pub use plan::{Plan, Want};
 pub use replace::NewPages;
-pub use space::AddressSpace;
+pub use space::{AddressSpace, new_cell};
 pub use spaces::Spaces;

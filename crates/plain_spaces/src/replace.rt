@@ -61,7 +61,7 @@ impl AddressSpace {
     }
 
     /// Takes out the cells of pages.
-    fn remove_all(&mut self, pages: &[u64])
+    pub fn remove_all(&mut self, pages: &[u64])
         ensures { (q : ℕ) → map.get self.new q ≡ cond (list_any (nat_eq q) pages.now) None (map.get self.old q) }
     {
         for page in pages {
@@ -102,7 +102,7 @@ impl AddressSpace {
     }
 
     /// Puts new cells in the place of those of a range, which lose their numbers.
-    fn overwrite(&mut self, new: NewPages, frames: &mut Owners, slots: &mut Owners)
+    pub fn overwrite(&mut self, new: NewPages, frames: &mut Owners, slots: &mut Owners)
         requires fits { Fits new }
         requires frames { IsCounted frame_of frames.old self.old }
         requires slots { IsCounted slot_of slots.old self.old }

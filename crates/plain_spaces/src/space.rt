@@ -41,7 +41,7 @@ impl Model for AddressSpace {
 }
 
 /// The cell of the page that stands so many pages after the first of a new mapping.
-pub(crate) fn new_cell(backing: Backing, perm: Perm, place: u64) -> Cell
+pub fn new_cell(backing: Backing, perm: Perm, place: u64) -> Cell
     requires { index_of backing + place < 2 ^ 64 }
     ensures { result ≡ backed backing perm place }
 {
@@ -166,7 +166,7 @@ impl AddressSpace {
     }
 
     /// Puts a cell at a page.
-    pub(crate) fn insert(&mut self, page: u64, cell: Cell) -> Result<(), AllocError>
+    pub fn insert(&mut self, page: u64, cell: Cell) -> Result<(), AllocError>
         ensures ok { OnOk result (self.new ≡ map.insert self.old page cell) }
         ensures err { OnErr result (self.new ≡ self.old) }
     {

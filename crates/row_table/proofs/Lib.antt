@@ -20,3 +20,4 @@ pub mod Marks
 pub mod Openings
 pub mod Links
 pub mod Sized
+pub mod Visits

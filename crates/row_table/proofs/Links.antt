@@ -65,7 +65,7 @@ unfolding row_words
 words_long ws r = length-map (range_with_len 0 512) (λ (j : ℕ). get_or ws (entry_at r j) 0) ∙ length-range_with_len 0 512
 
 -- rows other than one
-parts_without : {X : Type 0} (f : X → ℕ) (r : ℕ) (xs : List X) → map f (filter (λ x. not (eqb (f x) r)) xs) ≡ without r (map f xs)
+pub parts_without : {X : Type 0} (f : X → ℕ) (r : ℕ) (xs : List X) → map f (filter (λ x. not (eqb (f x) r)) xs) ≡ without r (map f xs)
 parts_without f r [] = refl
 parts_without {X} f r (x ∷ xs) = go (parts_without f r xs) (eqb (f x) r) refl
   where

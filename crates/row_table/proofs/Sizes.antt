@@ -1,15 +1,21 @@
 -- The sizes that a pass keeps, after each step.
-use Rattle.std.proofs.Common.{◌≡◌, ℕ, ◌+◌, ◌<◌, ◌&&◌, Bool, true, false, cond, eqb, not, List, sym, refl, ap, subst, ⊎_elim, arith, Option, Some, None}
+use Rattle.std.proofs.Common.{◌≡◌, ℕ, ◌+◌, ◌<◌, ◌&&◌, Bool, true, false, cond, eqb, not, List, ◌++◌, map, sym, refl, ap, ◌∙◌, subst, ⊎_elim, arith, Option, Some, None}
 use Rattle.std.specs.List.{Contains}
 use Rattle.std.proofs.lemmas.List.Elements.{Contains-push_cases}
 use Rattle.std.proofs.lemmas.Bool.{and_parts, cases_lt}
+use Rattle.std.proofs.lemmas.List.{map-append}
+use mathlib.Core.Logic.{dite}
+use native.Mathlib.Decide.{ℕ_discrete}
 use Rattle.atomic_table.specs.Seated.{TableId}
 use Rattle.table_place.specs.declared.Place.{Place}
 use Rattle.table_place.specs.Place.{entry_place}
 use Rattle.walk_core.specs.declared.pass.Stand.{Stand}
 use Rattle.walk_core.specs.Words.{is_link, link_row, link_generation}
-use Rattle.walk_core.specs.Lists.{Has}
-use Rattle.walk_core.specs.Events.{top, stand_after_look}
+use Rattle.walk_core.specs.declared.pass.GrantedRow.{GrantedRow}
+use Rattle.walk_core.specs.Lists.{Has, times}
+use Rattle.walk_core.specs.Core.{granted_rows}
+use Rattle.walk_core.specs.Events.{top, stand_after_look, newly_granted}
+use Rattle.walk_core.proofs.RowLists.{times-nil, times-append}
 use Rattle.walk_core.specs.Guards.{StandsOn}
 use Rattle.row_layout.specs.declared.places.Layout.{Layout}
 use Rattle.row_layout.specs.Places.{word_count}
@@ -21,16 +27,20 @@ use Rattle.row_table.specs.Known.{LinksRow, LinksBelow, IsSized}
 use Rattle.row_table.specs.Moves.{grabbed, looked, got, released, MayGrab}
 use Rattle.row_table.specs.Looks.{looked_at, MayLook}
 use Rattle.row_table.specs.Crossings.{entered, left}
-use Rattle.row_table.specs.Books.{given, turned, waited, gave}
+use Rattle.row_table.specs.Books.{given, taken_rows, turned, waited, gave}
 use Rattle.row_table.specs.Stack.{AreRows}
 use Rattle.row_table.proofs.Views.{kept}
-use Rattle.row_table.proofs.Turns.{contained_map}
+use Rattle.row_table.proofs.Turns.{same_parts, whole, contained_map}
 
 some_is : {X : Type 0} (x y : X) → Some x ≡ Some y → x ≡ y
 some_is x y e = cc
 
 none_is : {X : Type 0} {F : Type 0} (x : X) → None ≡ Some x → F
 none_is x e = absurd (cc)
+
+-- the rows of the hand after a give
+granted_more : (gs : List GrantedRow) (ts : List ℕ) → map (λ (g : GrantedRow). g.row) (gs ++ map newly_granted ts) ≡ map (λ (g : GrantedRow). g.row) gs ++ ts
+granted_more gs ts = map-append (λ (g : GrantedRow). g.row) gs (map newly_granted ts) ∙ ap (λ (l : List ℕ). map (λ (g : GrantedRow). g.row) gs ++ l) (same_parts newly_granted (λ (g : GrantedRow). g.row) (λ (x : ℕ). x) (λ x. refl) ts ∙ whole ts)
 
 -- where a look leads
 stands_after : (rows levels r i n : ℕ) (t : Option Stand) → ((s : Stand) → t ≡ Some s → s.row < rows) → (is_link n ≡ true → link_row n < rows)
@@ -76,10 +86,10 @@ module _ {R B E : Type 0} {n rows : ℕ} {id : TableId} {v : PassView R B E} (ol
   -- after each step
 
   pub sized_enter : 0 < rows → IsSized n rows id (entered v)
-  sized_enter some_rows = record { slots = old.slots; words = old.words; rows_are = old.rows_are; number = old.number; stand = λ s is. subst (λ (y : Stand). y.row < rows) (some_is top s is) some_rows; links = old.links }
+  sized_enter some_rows = record { slots = old.slots; words = old.words; rows_are = old.rows_are; number = old.number; stand = λ s is. subst (λ (y : Stand). y.row < rows) (some_is top s is) some_rows; links = old.links; granted = old.granted }
 
   pub sized_leave : IsSized n rows id (left v)
-  sized_leave = record { slots = old.slots; words = old.words; rows_are = old.rows_are; number = old.number; stand = λ s is. none_is s is; links = old.links }
+  sized_leave = record { slots = old.slots; words = old.words; rows_are = old.rows_are; number = old.number; stand = λ s is. none_is s is; links = old.links; granted = old.granted }
 
   pub sized_look : (r i w : ℕ) (place : Place) → (is_link w ≡ true → link_row w < v.layout.rows) → IsSized n rows id (looked_at v r place i w)
   sized_look r i w place below = record {
@@ -89,10 +99,11 @@ module _ {R B E : Type 0} {n rows : ℕ} {id : TableId} {v : PassView R B E} (ol
     number = old.number;
     stand = stands_after rows (levels_of v.layout) r i w v.core.stand old.stand (λ link. let less = below link in let same = old.rows_are in omega arith);
     links = old.links;
+    granted = old.granted;
   }
 
   pub sized_miss : (r : ℕ) (place : Place) (w : ℕ) → IsSized n rows id (looked v r place None w)
-  sized_miss r place w = record { slots = old.slots; words = old.words; rows_are = old.rows_are; number = old.number; stand = old.stand; links = old.links }
+  sized_miss r place w = record { slots = old.slots; words = old.words; rows_are = old.rows_are; number = old.number; stand = old.stand; links = old.links; granted = old.granted }
 
   pub sized_got : (r : ℕ) (place : Place) (words : List ℕ) (x : R) → LinksBelow v.layout.rows words → IsSized n rows id (got v r place words x)
   sized_got r place words x below = record {
@@ -104,6 +115,7 @@ module _ {R B E : Type 0} {n rows : ℕ} {id : TableId} {v : PassView R B E} (ol
     links = λ h i. ⊎_elim (λ (j : Contains v.rows h). old.links h j)
         (λ (e : grabbed r place words x ≡ h). subst (λ (y : HeldRow R). LinksBelow rows y.words) e (subst (λ (m : ℕ). LinksBelow m words) (sym old.rows_are) below))
         (Contains-push_cases v.rows (grabbed r place words x) h i);
+    granted = old.granted;
   }
 
   pub sized_released : (r : ℕ) → IsSized n rows id (released v r)
@@ -114,24 +126,28 @@ module _ {R B E : Type 0} {n rows : ℕ} {id : TableId} {v : PassView R B E} (ol
     number = old.number;
     stand = old.stand;
     links = λ h i. old.links h (kept (λ (u : HeldRow R). not (eqb u.row r)) v.rows h i).1;
+    granted = old.granted;
   }
 
   pub sized_waited : (w : ℕ) → IsSized n rows id (waited v w)
-  sized_waited w = record { slots = old.slots; words = old.words; rows_are = old.rows_are; number = old.number; stand = old.stand; links = old.links }
+  sized_waited w = record { slots = old.slots; words = old.words; rows_are = old.rows_are; number = old.number; stand = old.stand; links = old.links; granted = old.granted }
 
   module _ (M : Meaning R B E) where
     pub sized_turned : (book : B) → IsSized n rows id (turned M v book)
-    sized_turned book = record { slots = old.slots; words = old.words; rows_are = old.rows_are; number = old.number; stand = old.stand; links = old.links }
+    sized_turned book = record { slots = old.slots; words = old.words; rows_are = old.rows_are; number = old.number; stand = old.stand; links = old.links; granted = old.granted }
 
-    pub sized_gave : (a b : B) (generation : ℕ → ℕ) → IsSized n rows id (gave M v a b generation)
-    sized_gave a b generation = record {
+    pub sized_gave : (a b : B) (generation : ℕ → ℕ) → ((r : ℕ) → Has (taken_rows M a b) r → r < v.layout.rows) → IsSized n rows id (gave M v a b generation)
+    sized_gave a b generation taken = record {
       slots = old.slots;
       words = old.words;
       rows_are = old.rows_are;
       number = old.number;
       stand = old.stand;
       links = λ h i. let o = contained_map given v.rows h i in subst (λ (y : HeldRow R). LinksBelow rows y.words) o.2 (old.links o.0 o.1);
+      granted = λ r has. let both = ap (times r) (granted_more v.core.granted (taken_rows M a b)) in let all = times-append r (granted_rows v.core) (taken_rows M a b) in dite (ℕ_discrete (times r (granted_rows v.core)) 0)
+          (λ none_before. let less = taken r (omega arith) in let same = old.rows_are in omega arith)
+          (λ before. old.granted r (omega arith));
     }
 
 pub sized_new : {R B E : Type 0} (n rows : ℕ) (id : TableId) (k : Layout) (origin : Option B) → id.slots ≡ rows + 1 → id.words ≡ word_count k → rows ≡ k.rows → n < k.passes → IsSized n rows id (unmoved {R = R} {B = B} {E = E} k origin n)
-sized_new n rows id k origin slots words same less = record { slots = slots; words = words; rows_are = same; number = less; stand = λ s is. none_is s is; links = λ h i. let z = i.1 in absurd (omega arith) }
+sized_new n rows id k origin slots words same less = record { slots = slots; words = words; rows_are = same; number = less; stand = λ s is. none_is s is; links = λ h i. let z = i.1 in absurd (omega arith); granted = λ r has. let z = times-nil r in absurd (omega arith) }

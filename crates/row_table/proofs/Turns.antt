@@ -60,7 +60,7 @@ pub same_parts : {X Y : Type 0} (f : X → Y) (g : Y → ℕ) (h : X → ℕ) �
 same_parts f g h same [] = refl
 same_parts f g h same (x ∷ xs) = λ i. same x i ∷ same_parts f g h same xs i
 
-whole : (xs : List ℕ) → map (λ (x : ℕ). x) xs ≡ xs
+pub whole : (xs : List ℕ) → map (λ (x : ℕ). x) xs ≡ xs
 whole [] = refl
 whole (x ∷ xs) = ap (λ (l : List ℕ). x ∷ l) (whole xs)
 
@@ -354,8 +354,14 @@ module _ {R B E : Type 0} (M : Meaning R B E) where
             let old_is : a ≡ h.book = cc in
             let front_is = same_front _ _ _ _ fronts in let new_is : new ≡ b = cc in
             subst (λ (x : B). GiveSays M (v ∷ [], (k.rows, Some (Book new)) ∷ cs) (w ∷ [], cs) x b) (sym old_is)
-            (subst (GiveSays M (v ∷ [], (k.rows, Some (Book new)) ∷ cs) (w ∷ [], cs) h.book) new_is
-            (record { generation = generation_of s.words; low = λ r i. h.generations r (taken_there k first s h v mine lawful has new may_give r i) }, refl)),
+            (subst (GiveSays M (v ∷ [], (k.rows, Some (Book new)) ∷ cs) (w ∷ [], cs) h.book) new_is (
+              record {
+                generation = generation_of s.words;
+                low = λ r i. h.generations r (taken_there k first s h v mine lawful has new may_give r i);
+                there = λ r i. subst (λ (y : Layout). r < y.rows) (sym know.layout) (taken_there k first s h v mine lawful has new may_give r i);
+              },
+              refl,
+            )),
       ))
 
   -- the same where the place and the number are known by equations

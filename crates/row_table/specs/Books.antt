@@ -125,14 +125,15 @@ module _ {R B E : Type 0} where
     abbrev pub TurnTells : Step (Slot R B) → Seat R B E → ℕ → Seat R B E → Type 0
     TurnTells st m n m' = (rows : ℕ) → st.slots ≡ rows + 1 → TurnSays m n m' rows
 
-    -- the generation of each row that a give grants is below the next one that the turn found
-    pub record Grants (old new : B) : Type 0 where
+    -- the generation of each row that a give grants is below the next one that the turn found, and the row is one of so many
+    pub record Grants (rows : ℕ) (old new : B) : Type 0 where
       pub generation : ℕ → ℕ
       pub low : (r : ℕ) → Has (taken_rows old new) r → generation r < M.next_generation old
+      pub there : (r : ℕ) → Has (taken_rows old new) r → r < rows
 
     -- of a give of the second book, where the turn found the first
     abbrev pub GiveSays : Seat R B E → Seat R B E → B → B → Type 0
-    GiveSays m m' old new = (grants : Grants old new) × (m' ≡ (gave (view m) old new grants.generation ∷ [], rest m.1))
+    GiveSays m m' old new = (grants : Grants (view m).layout.rows old new) × (m' ≡ (gave (view m) old new grants.generation ∷ [], rest m.1))
 
     abbrev pub GiveTells : Step (Slot R B) → Seat R B E → ℕ → Seat R B E → Type 0
     GiveTells st m n m' = (rows : ℕ) (old new : B) → (view m).found ≡ Some old → m.1 ≡ (rows, Some (Book new)) ∷ rest m.1 → GiveSays m m' old new
@@ -146,7 +147,7 @@ module _ {R B E : Type 0} where
     pub record Gives (v : PassView R B E) (new : B) (w : PassView R B E) : Type 0 where
       pub old : B
       pub found : v.found ≡ Some old
-      pub grants : Grants old new
+      pub grants : Grants v.layout.rows old new
       pub after : w ≡ gave v old new grants.generation
 
     -- the book that the pass has may be given in this form

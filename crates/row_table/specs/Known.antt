@@ -12,6 +12,7 @@ use Rattle.table_place.specs.Place.{entry_place}
 use Rattle.walk_core.specs.declared.pass.Stand.{Stand}
 use Rattle.walk_core.specs.Words.{is_link, link_row}
 use Rattle.walk_core.specs.Lists.{Has}
+use Rattle.walk_core.specs.Core.{granted_rows}
 use Rattle.row_layout.specs.Places.{word_count}
 use Rattle.row_table.specs.declared.view.PassView.{PassView}
 use Rattle.row_table.specs.declared.view.HeldRow.{HeldRow}
@@ -47,7 +48,7 @@ module _ {R B E : Type 0} where
     pub not_held : ¬ Has v.core.held row
     pub unlinked : ¬ LinksRow v row
 
-  -- the pass n of a table with so many rows: the rows that it stands on and that held rows link are there
+  -- the pass n of a table with so many rows: the rows that it stands on, that held rows link and that it was granted are there
   pub record IsSized (n rows : ℕ) (id : TableId) (v : PassView R B E) : Type 0 where
     pub slots : id.slots ≡ rows + 1
     pub words : id.words ≡ word_count v.layout
@@ -55,3 +56,4 @@ module _ {R B E : Type 0} where
     pub number : n < v.layout.passes
     pub stand : (s : Stand) → v.core.stand ≡ Some s → s.row < rows
     pub links : (h : HeldRow R) → Contains v.rows h → LinksBelow rows h.words
+    pub granted : (r : ℕ) → Has (granted_rows v.core) r → r < rows

@@ -10,8 +10,8 @@ use Rattle.table_place.specs.declared.Place.{Place}
 use Rattle.table_place.specs.Place.{is_place}
 use Rattle.walk_core.specs.declared.event.SetPart.TheVariants.{Position, Generation}
 use Rattle.walk_core.specs.Words.{lock_at, position_at, generation_at, place_shown}
-use Rattle.walk_core.specs.Lists.{times}
-use Rattle.walk_core.specs.Core.{granted_at, set_up}
+use Rattle.walk_core.specs.Lists.{times, Has}
+use Rattle.walk_core.specs.Core.{granted_rows, granted_at, set_up}
 use Rattle.walk_core.specs.Events.{granted_after_part}
 use Rattle.row_table.specs.declared.plan.Content.TheVariants.{Row}
 use Rattle.row_table.specs.declared.view.PassView.{PassView}
@@ -48,6 +48,7 @@ module _ {R B E : Type 0} where
     pub known : HandRow
     pub in_hand : Contains v.hand known
     pub same_row : known.row ≡ row
+    pub granted : Has (granted_rows v.core) row
     pub closed : times row v.core.held ≡ 0
     pub is_place : is_place (levels_of v.layout) place ≡ true
     pub above : known.generation < generation

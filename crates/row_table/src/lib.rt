@@ -16,6 +16,7 @@ mod stack;
 mod table;
 #[cfg(test)]
 mod tests;
+mod uses;
 mod view;
 
 pub use answers::{Grabbed, Turned, Worn};

@@ -1,7 +1,7 @@
 //! Set up and open row.
 ghost use Rattle.std.specs.Prelude.{◌≡◌, ◌<◌, ◌^◌};
 ghost use Rattle.walk_core.specs.Words as words;
-ghost use Rattle.row_table.specs.Passes.{view_of, kit_of, table_of, layout_of, IsPassOf};
+ghost use Rattle.row_table.specs.Passes.{view_of, kit_of, table_of, IsPassOf};
 ghost use Rattle.row_table.specs.Openings.{MaySetUp, MayOpen, Opens, prepared};
 
 use crate::pass::Pass;
@@ -52,7 +52,6 @@ impl<P: Plan> Pass<P> {
     /// Writes the position and the generation of a row that the pass was granted. The row can be opened then.
     pub fn set_up(&mut self, iron: &Iron<P>, row: u32, place: Place, generation: u64)
         requires table { IsPassOf iron.now self.old }
-        requires row { row < (layout_of iron.now).rows }
         requires guard { MaySetUp (view_of self.old) row place generation }
         ensures table { table_of self.new ≡ table_of self.old }
         ensures same { kit_of self.new ≡ kit_of self.old }
@@ -72,7 +71,6 @@ impl<P: Plan> Pass<P> {
     /// Takes a row that the pass was granted and has set up. Its content is blank.
     pub fn open_row(&mut self, iron: &Iron<P>, row: u32) -> P::Row
         requires table { IsPassOf iron.now self.old }
-        requires row { row < (layout_of iron.now).rows }
         requires guard { MayOpen (view_of self.old) row }
         ensures table { table_of self.new ≡ table_of self.old }
         ensures same { kit_of self.new ≡ kit_of self.old }

@@ -1,5 +1,5 @@
 -- Operations in order, and whether a page has a cell after them.
-use Rattle.std.proofs.Common.{◌≡◌, ℕ, ◌+◌, ◌-◌, ◌/◌, ◌<◌, Bool, true, false, cond, List, [], ◌∷◌, ◌++◌, refl, sym, ap, ◌∙◌, length, take, get_or}
+use Rattle.std.proofs.Common.{◌≡◌, ℕ, ◌+◌, ◌-◌, ◌<◌, Bool, true, false, cond, List, [], ◌∷◌, ◌++◌, refl, sym, ap, ◌∙◌, length, take, get_or}
 use Rattle.std.proofs.lemmas.List.{take_more}
 use Rattle.std.specs.Prelude.{Option, Some, None, is_some}
 use Rattle.std.specs.Option.{option_or, option_map, unwrap_or}
@@ -13,6 +13,7 @@ use Rattle.page_map.specs.Cell.{with_perm}
 use Rattle.page_map.specs.Mapping.{op_first, op_pages, after_op, after_ops, backed}
 use Rattle.page_map.specs.State.{AddressSpace}
 use Rattle.page_map.proofs.Range.{get-change}
+use Rattle.txn_plan.specs.Applies.{left_at}
 use Rattle.txn_plan.specs.Covers.{presence_after, covered_by, covered}
 
 or_assoc : {A : Type 0} (a b c : Option A) → option_or (option_or a b) c ≡ option_or a (option_or b c)
@@ -28,19 +29,13 @@ pub covered-append : (xs : List TxnOp) (o : TxnOp) (q : ℕ) → covered (xs ++ 
 covered-append [] o q = or_none (covered_by o q)
 covered-append (x ∷ xs) o q = ap (λ c. option_or c (covered_by x q)) (covered-append xs o q) ∙ or_assoc (covered_by o q) (covered xs q) (covered_by x q)
 
--- what one operation leaves at a page
-abbrev pub new_at : TxnOp → ℕ → Option Cell → Option Cell
-new_at (op.Map at fresh len perm what) q o = Some (backed what perm (q - at / 4096))
-new_at (op.Unmap at len) q o = None
-new_at (op.Protect at len perm) q o = option_map (with_perm perm) o
-
-pub get-after_op : (o : TxnOp) (cells : AddressSpace) (q : ℕ) → get (after_op o cells) q ≡ cond (within (op_first o) (op_pages o) q) (new_at o q (get cells q)) (get cells q)
+pub get-after_op : (o : TxnOp) (cells : AddressSpace) (q : ℕ) → get (after_op o cells) q ≡ cond (within (op_first o) (op_pages o) q) (left_at o q (get cells q)) (get cells q)
 unfolding after_op
 get-after_op (op.Map at fresh len perm what) cells q = get-change cells (op_first (op.Map at fresh len perm what)) (pages_of len) (λ page _. Some (backed what perm (page - op_first (op.Map at fresh len perm what)))) q
 get-after_op (op.Unmap at len) cells q = get-change cells (op_first (op.Unmap at len)) (pages_of len) (λ _ _. None) q
 get-after_op (op.Protect at len perm) cells q = get-change cells (op_first (op.Protect at len perm)) (pages_of len) (λ _. option_map (with_perm perm)) q
 
-new_presence : (o : TxnOp) (q : ℕ) (c : Option Cell) → is_some (new_at o q c) ≡ unwrap_or (presence_after o) (is_some c)
+new_presence : (o : TxnOp) (q : ℕ) (c : Option Cell) → is_some (left_at o q c) ≡ unwrap_or (presence_after o) (is_some c)
 new_presence (op.Map at fresh len perm what) q c = refl
 new_presence (op.Unmap at len) q c = refl
 new_presence (op.Protect at len perm) q None = refl
@@ -49,7 +44,7 @@ new_presence (op.Protect at len perm) q (Some c) = refl
 presence_by : (o : TxnOp) (cells : AddressSpace) (q : ℕ) → is_some (get (after_op o cells) q) ≡ unwrap_or (covered_by o q) (is_some (get cells q))
 presence_by o cells q = ap is_some (get-after_op o cells q) ∙ go (within (op_first o) (op_pages o) q)
   where
-    go : (b : Bool) → is_some (cond b (new_at o q (get cells q)) (get cells q)) ≡ unwrap_or (cond b (presence_after o) None) (is_some (get cells q))
+    go : (b : Bool) → is_some (cond b (left_at o q (get cells q)) (get cells q)) ≡ unwrap_or (cond b (presence_after o) None) (is_some (get cells q))
     go true = new_presence o q (get cells q)
     go false = refl
 

@@ -1,4 +1,4 @@
-use Rattle.std.proofs.Common.{◌≡◌, rules, arith, ℕ, List, [], ◌∷◌, drop, sym, ap, ◌∙◌, subst, None}
+use Rattle.std.proofs.Common.{◌≡◌, ◌<◌, rules, arith, ℕ, List, [], ◌∷◌, drop, sym, ap, ◌∙◌, subst, None}
 use Rattle.atomic_table.specs.Table.{rest}
 use Rattle.walk_core.specs.Lists.{times}
 use Rattle.walk_core.specs.Words.{book_at}
@@ -52,7 +52,8 @@ invariant_of-self g c =
     let left : c.pop_front.new.self.items ≡ more = c.pop_front.ensures.rest ∙ ap (drop 1) c.bring.ensures.front.1 in
     let same : SameRows (p.rows ∷ more) (carried p.rows (view p.seat.me).core.held (view p.seat.me).core.has_book) = λ r. ap (times r) (sym c.bring.ensures.front.1) ∙ (c.bring.ensures.rows r ∙ p.carries r) in
     let k : Kept p.number p.rows c.store.new.seat.table_id c.store.new.seat.me c.pop_front.new.self.items = subst (Kept p.number p.rows c.store.new.seat.table_id c.store.new.seat.me) (sym left)
-    (kept_by p.number p.rows p.seat.table_id c.store.new.seat.table_id c.store.new.seat.me more w (c.store.ensures.0 ∙ (c.put_book.ensures.table ∙ c.bring.ensures.same.1)) now p.one.1 (sized_gave p.sized g.P.Plan.meaning may.old c.args.book t.0.generation)
+    (kept_by p.number p.rows p.seat.table_id c.store.new.seat.table_id c.store.new.seat.me more w (c.store.ensures.0 ∙ (c.put_book.ensures.table ∙ c.bring.ensures.same.1)) now p.one.1 (sized_gave p.sized g.P.Plan.meaning may.old c.args.book t.0.generation
+    (λ r i. subst (λ (v : PassView g.row.P-Row.Denot g.row.P-Book.Denot g.row.P-Entry.Denot). r < v.layout.rows) sees (t.0.there r i)))
     (carries_no_book p.rows (view p.seat.me).core.held more (view p.seat.me).core.has_book c.requires.has same) p.held) in
     record {
       one = k.one;
@@ -75,6 +76,6 @@ returns-clause-gives g c =
     record {
       old = may.old;
       found = may.found;
-      grants = t.0;
+      grants = record { generation = t.0.generation; low = t.0.low; there = λ r i. subst (λ (v : PassView g.row.P-Row.Denot g.row.P-Book.Denot g.row.P-Entry.Denot). r < v.layout.rows) sees (t.0.there r i) };
       after = view_of _ _ _ t.1 ∙ ap (λ (v : PassView g.row.P-Row.Denot g.row.P-Book.Denot g.row.P-Entry.Denot). gave g.P.Plan.meaning v may.old c.args.book t.0.generation) sees;
     }

@@ -5,7 +5,7 @@ use Rattle.row_table.specs.Rule.{Seat, view}
 use Rattle.row_table.specs.Openings.{numbered, prepared}
 use Rattle.row_table.proofs.Openings.{is_spelled, spelled_is, places_at, numbers_next}
 use Rattle.row_table.proofs.Told.{Kept, kept_by, view_of}
-use Rattle.row_table.proofs.Sized.{sized_prepared}
+use Rattle.row_table.proofs.Sized.{granted_there, sized_prepared}
 use Rattle.row_table.proofs.pass.Pass.set_up.Goals as goal
 
 pub position_word-spelled-requires : goal.position_word-spelled-requires
@@ -14,14 +14,14 @@ position_word-spelled-requires g c = is_spelled (view c.args.self.now.seat.me).l
 pub store-requires : goal.store-requires
 store-requires g c = let may = c.requires.guard in (
   search rules,
-  let wide = c.args.iron.now.sized.0 in let at = c.position-place_word.ensures in let less = c.requires.row in omega arith,
+  let wide = c.args.iron.now.sized.0 in let at = c.position-place_word.ensures in let less = granted_there c.args.self.now.sized _ c.args.iron.now.layout c.requires.table c.args.iron.now.sized.0 c.args.iron.now.sized.1 c.args.row c.requires.guard.granted in omega arith,
   places_at g.P.Plan.meaning _ _ _ _ _ c.args.self.now.number c.args.row _ _ c.args.place may.known c.position-place_word.ensures c.position_word-spelled.ensures c.args.self.now.one may.in_hand may.same_row may.closed may.is_place,
 )
 
 pub store-requires-2 : goal.store-requires-2
 store-requires-2 g c = (
   search rules,
-  let wide = c.args.iron.now.sized.0 in let at = c.generation-number_word.ensures in let less = c.requires.row in omega arith,
+  let wide = c.args.iron.now.sized.0 in let at = c.generation-number_word.ensures in let less = granted_there c.args.self.now.sized _ c.args.iron.now.layout c.requires.table c.args.iron.now.sized.0 c.args.iron.now.sized.1 c.args.row c.requires.guard.granted in omega arith,
   numbers_next g.P.Plan.meaning _ _ _ _ c.args.self.now.seat.me c.store.new.seat.me c.args.self.now.number c.args.row _ c.args.generation (place_shown c.position_word-spelled.result) c.args.place c.generation-number_word.ensures
       c.args.self.now.one c.requires.guard (c.store.ensures.2 c.args.row c.position-place_word.ensures),
 )
