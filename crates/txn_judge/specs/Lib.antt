@@ -1,3 +1,0 @@
-pub mod Presence
-pub mod NewTables
-pub mod Judging
