@@ -21,14 +21,14 @@ use Rattle.page_map.specs.State.{IsConsistent, State, AddressSpace, cell_at, is_
 use Rattle.page_map.specs.Access.{wants_frame}
 use Rattle.page_map.specs.Effect.{state_after, wanting_frames_of}
 use Rattle.page_map.specs.Step.{step}
-use Rattle.page_map.specs.Found.{found, ReadAlike, lacks_frames, in_use, frames_in_use, slots_in_use}
+use Rattle.page_map.specs.Found.{found, ReadAlike, lacks_frames, is_read_or_short, in_use, frames_in_use, slots_in_use}
 use Rattle.page_map.proofs.Steps.{Passed, by_step}
 use Rattle.page_map.proofs.Owners.{weight_at, an_owner}
 use Rattle.page_map.proofs.Unmapped.{held_of}
 use Rattle.page_map.proofs.Cells.{changed, cell_changed, present_changed}
 use Rattle.page_map.proofs.Written.{length_range}
 use Rattle.page_map.proofs.Views.{view, out_view, in_view}
-use Rattle.page_map.proofs.LoadReplies.{front, free_frames, wanted_frames, short_load, enough_load, refused_load, fronts_alike, same_loaded}
+use Rattle.page_map.proofs.LoadReplies.{front, free_frames, wanted_frames, short_load, enough_load, answered_load, read_or_short, refused_load, fronts_alike, same_loaded}
 
 -- ---- counts
 
@@ -203,7 +203,7 @@ module _ (st : State) (thread limbo space s : ℕ) (other : nat_eq s space ≡ f
       short : free' < wanted' → ⊥
       short h = omega (arith, h, more, same, ltb-false free wanted enough)
 
-  pub exit_loaded : ((step st asking (call.Load s at len) later).0 ≡ (step next asking' (call.Load s at len) later').0) ⊎ (lacks_frames (step st asking (call.Load s at len) later).0 ≡ true)
+  pub exit_loaded : ((step st asking (call.Load s at len) later).0 ≡ (step next asking' (call.Load s at len) later').0) ⊎ ((lacks_frames (step st asking (call.Load s at len) later).0 ≡ true) × (is_read_or_short (step next asking' (call.Load s at len) later').0 ≡ true))
   exit_loaded = go (front st asking later s at len room) refl
     where
       same : ReadAlike next s st s
@@ -213,14 +213,14 @@ module _ (st : State) (thread limbo space s : ℕ) (other : nat_eq s space ≡ f
       fronts = fronts_alike next s st s same at len asking' later' asking later room' room
 
       none : front st asking later s at len room ≡ None → (b : Bool) → nat_lt (free_frames st asking later s at len room) (wanted_frames st asking later s at len room) ≡ b →
-          ((step st asking (call.Load s at len) later).0 ≡ (step next asking' (call.Load s at len) later').0) ⊎ (lacks_frames (step st asking (call.Load s at len) later).0 ≡ true)
-      none e true lt = inr (short_load st asking later s at len room e lt)
+          ((step st asking (call.Load s at len) later).0 ≡ (step next asking' (call.Load s at len) later').0) ⊎ ((lacks_frames (step st asking (call.Load s at len) later).0 ≡ true) × (is_read_or_short (step next asking' (call.Load s at len) later').0 ≡ true))
+      none e true lt = inr (short_load st asking later s at len room e lt, read_or_short _ _ (answered_load next asking' later' s at len room' (fronts ∙ e)))
       none e false lt = inl (
           enough_load st asking later s at len room e lt
           ∙ ap reply.Bytes (sym (same_loaded next s st s same at len))
           ∙ sym (enough_load next asking' later' s at len room' (fronts ∙ e) (enough_then _ _ _ _ (freer st thread limbo space s other) (ap length same_wanted) lt)))
 
       go : (o : Option Reply) → front st asking later s at len room ≡ o →
-          ((step st asking (call.Load s at len) later).0 ≡ (step next asking' (call.Load s at len) later').0) ⊎ (lacks_frames (step st asking (call.Load s at len) later).0 ≡ true)
+          ((step st asking (call.Load s at len) later).0 ≡ (step next asking' (call.Load s at len) later').0) ⊎ ((lacks_frames (step st asking (call.Load s at len) later).0 ≡ true) × (is_read_or_short (step next asking' (call.Load s at len) later').0 ≡ true))
       go (Some r) e = inl (refused_load st asking later s at len room r e ∙ sym (refused_load next asking' later' s at len room' r (fronts ∙ e)))
       go None e = none e (nat_lt (free_frames st asking later s at len room) (wanted_frames st asking later s at len room)) refl

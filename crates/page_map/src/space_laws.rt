@@ -12,7 +12,7 @@ ghost use Rattle.page_map.specs.Effect.{space_of};
 ghost use Rattle.page_map.specs.History.{IsLegal, after};
 ghost use Rattle.page_map.specs.Memory.{bytes_at};
 ghost use Rattle.page_map.specs.Step.{step};
-ghost use Rattle.page_map.specs.Found.{ReadAlike, LoadedAlike, OwnLeaveBytes, lacks_frames, calls_on, removes, frames_in_use, slots_in_use};
+ghost use Rattle.page_map.specs.Found.{ReadAlike, LoadedAlike, OwnLeaveBytes, lacks_frames, is_read_or_short, calls_on, removes, frames_in_use, slots_in_use};
 
 /// Loads get the same replies of two spaces in which accesses find the same, but that one may lack frames.
 pub fn a_load_is_answered_by_what_is_found()
@@ -79,14 +79,15 @@ pub fn moves_to_swap_and_back_are_not_found()
 {}
 
 /// `exit` of one space changes nothing that an access finds in another. A load there gets the reply that it got before, or
-/// it lacked frames before.
+/// it lacked frames before, and now has its bytes or lacks them still.
 pub fn an_exit_is_not_found_elsewhere()
     ensures found { (st : State) (thread limbo space other : ℕ) → other ≢ space → ReadAlike (step st thread (call.Exit space) limbo).1 other st other }
     ensures loaded { (st : State) (thread limbo space other at len asking later asking' later' : ℕ) → other ≢ space
         → linked st + later ≤ st.limits.tables
         → linked (step st thread (call.Exit space) limbo).1 + later' ≤ (step st thread (call.Exit space) limbo).1.limits.tables
         → ((step st asking (call.Load other at len) later).0 ≡ (step (step st thread (call.Exit space) limbo).1 asking' (call.Load other at len) later').0)
-        ⊎ (lacks_frames (step st asking (call.Load other at len) later).0 ≡ true) }
+        ⊎ ((lacks_frames (step st asking (call.Load other at len) later).0 ≡ true)
+        × (is_read_or_short (step (step st thread (call.Exit space) limbo).1 asking' (call.Load other at len) later').0 ≡ true)) }
 {}
 
 /// Frames that are free and frames that pages have are all frames, and each frame that a page has is counted; so it is with swap slots.
