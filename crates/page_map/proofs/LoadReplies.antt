@@ -26,7 +26,7 @@ use Rattle.page_map.proofs.Steps.{refused, accepted}
 use Rattle.page_map.proofs.Places.{place_total, place_exact}
 use Rattle.page_map.proofs.Views.{view}
 
-need_none : (tables : Tables) → need [] tables ≡ 0
+pub need_none : (tables : Tables) → need [] tables ≡ 0
 need_none tables = ap set.len (difference_empty place_total place_exact tables) ∙ len-empty place_cmp
 
 where_false : (b : Bool) (r : Reply) → (b ≡ true → ⊥) → cond b (Some r) None ≡ None
