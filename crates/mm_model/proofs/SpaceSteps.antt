@@ -118,12 +118,15 @@ module _ (st : State) (c : Call) (cells : AddressSpace) (is : IsBirth st c cells
           go (Some r) e = sym (refused st thread c limbo r (decided ∙ e))
           go None e = (λ i. (sym (is.answer_is thread new least) i, after_is i)) ∙ sym (accepted st thread c limbo (decided ∙ e))
 
+      pub too_few_tables : (r : Reply) → tables_lack st (new_tables new cells) limbo ≡ Some r → (r, st) ≡ step st thread c limbo
+      too_few_tables r e = sym (refused st thread c limbo r (decided ∙ e))
+
       pub keeps : thread < 8 → IsConsistent st → tables_lack st (new_tables new cells) limbo ≡ None → IsConsistent (with_space st new cells)
       keeps few ok enough = subst IsConsistent (sym (ap (λ p. p.1) born) ∙ ap (λ o. (made_unless o st new cells).1) enough) (step_keeps st thread limbo c few ok)
 
 -- ---- what `make` asks for
 
-least_is_absent : (st : State) (new : ℕ) → least_absent st ≡ Some new → get st.spaces new ≡ None
+pub least_is_absent : (st : State) (new : ℕ) → least_absent st ≡ Some new → get st.spaces new ≡ None
 least_is_absent st new e = go (get st.spaces new) (least_passes 0 64 (λ s. not (is_present st s)) new e).2
   where
     go : (o : Option AddressSpace) → not (is_some o) ≡ true → o ≡ None
@@ -175,6 +178,12 @@ pub forked : (st : State) (space new limbo thread : ℕ) (cells : AddressSpace) 
 forked st space new limbo thread cells here least =
     ap (λ m. made st new m limbo) (sym (ap (λ o. unwrap_or o fin.empty) here))
     ∙ born st (call.Fork space) (space_at st space) (fork_birth st space) thread limbo (ap (λ o. refused_unless (is_some o) reply.NoSpace) here) new least
+
+pub fork_refused : (st : State) (space new limbo thread : ℕ) (cells : AddressSpace) (r : Reply) → get st.spaces space ≡ Some cells → least_absent st ≡ Some new → tables_lack st (new_tables new cells) limbo ≡ Some r →
+    (r, st) ≡ step st thread (call.Fork space) limbo
+fork_refused st space new limbo thread cells r here least lack =
+    too_few_tables st (call.Fork space) (space_at st space) (fork_birth st space) thread limbo (ap (λ o. refused_unless (is_some o) reply.NoSpace) here) new least r
+    (ap (λ m. tables_lack st (new_tables new m) limbo) (ap (λ o. unwrap_or o fin.empty) here) ∙ lack)
 
 -- what follows from an outcome
 pub if_ok : {A E : Type 0} {P Q : A → Type 0} (r : Result A E) → IfOk r P → ((x : A) → P x → Q x) → IfOk r Q
