@@ -14,6 +14,7 @@ use Rattle.walk_core.specs.Lists.{Has, times}
 use Rattle.walk_core.specs.Core.{Core, pass_at, idle, IsLinked}
 use Rattle.walk_core.specs.Good.{Good, LockSays, says_free, says_held, says_stale}
 use Rattle.walk_core.proofs.RowLists.{times-nil}
+use Rattle.walk_core.proofs.Facts.{root_linked}
 use Rattle.walk_core.proofs.Tree.{names_there, names_linked}
 use Rattle.row_layout.specs.declared.places.Layout.{Layout}
 use Rattle.row_table.specs.declared.view.PassView.{PassView}
@@ -68,6 +69,7 @@ module _ {R B E : Type 0} (M : Meaning R B E) (k : Layout) (first : B) (s : Tabl
   loose_row r less shown =
       let few = h.good.sizes.bounds.count_high in record {
         not_held = λ has. let on = has_held M k first s h v mine r has in let one = (h.good.locks.rows.held v.number r on).shown in let there = held_below c v.number r h.good on in omega arith;
+        not_root = λ z. says (subst (IsLinked c) (sym z) (root_linked h.good)) (get_or s.words (lock_at r) 0) shown (h.good.locks.rows.each r less);
         unlinked = λ l. says (linked_row r l) (get_or s.words (lock_at r) 0) shown (h.good.locks.rows.each r less);
       }
     where

@@ -141,6 +141,7 @@ module _ {R B E : Type 0} (M : Meaning R B E) where
             subst (GrabSays m found (w ∷ [], (r, Some (Row t.0)) ∷ m.1)) e (
               (λ _. (
                 record {
+                  there = subst (λ (y : Layout). r < y.rows) (sym know.layout) less;
                   place = place;
                   known = place_known M k first s h v mine r;
                   words = words;

@@ -1,7 +1,7 @@
 -- What a pass knows of rows by what it stands on and holds.
 --     LinksRow      a held row has an entry that links the row
 --     IsKnownPlace      where a row is, as far as the pass knows
---     IsHolder, IsLoose      which pass holds a row, and a row that nobody may take
+--     IsHolder, IsAnother, IsLoose      which pass holds a row, another pass, and a row that nobody may take
 --     LinksBelow      the rows that entry words link are there
 --     IsSized      what a pass keeps of the sizes of its table
 use Rattle.std.specs.Prelude.{◌≡◌, ◌≢◌, ℕ, ◌+◌, ◌<◌, ◌⊎◌, true, List, slice_index, Some}
@@ -43,8 +43,14 @@ module _ {R B E : Type 0} where
     pub own : Has v.core.held row → s ≡ v.number
     pub other : (s ≢ v.number) ⊎ Has v.core.held row
 
-  -- the pass does not hold the row, and no row that it holds links it
+  -- the pass is there, and is not this one
+  pub record IsAnother (v : PassView R B E) (s : ℕ) : Type 0 where
+    pub there : s < v.layout.passes
+    pub other : s ≢ v.number
+
+  -- the row is not row 0, the pass does not hold it, and no row that it holds links it
   pub record IsLoose (v : PassView R B E) (row : ℕ) : Type 0 where
+    pub not_root : row ≢ 0
     pub not_held : ¬ Has v.core.held row
     pub unlinked : ¬ LinksRow v row
 

@@ -5,7 +5,7 @@
 --     GrabSays, GrabTells, ReleaseTells      what a step tells its seat
 --     NotInHand, MayGrab      a row is not in the pass's hand;  when a pass may grab
 --     Fits, MayRelease      a content that may stand in a row;  when a pass may release
-use Rattle.std.specs.Prelude.{◌≡◌, ◌≢◌, ℕ, ◌≤◌, not, true, false, ◌⊎◌, List, [], ◌∷◌, ◌++◌, nat_eq, Option, None, Some}
+use Rattle.std.specs.Prelude.{◌≡◌, ◌≢◌, ℕ, ◌<◌, ◌≤◌, not, true, false, ◌⊎◌, List, [], ◌∷◌, ◌++◌, nat_eq, Option, None, Some}
 use Rattle.std.specs.List.{Contains, filter}
 use Rattle.atomic_table.specs.Table.{Step, rest}
 use Rattle.table_place.specs.declared.Place.{Place}
@@ -46,6 +46,7 @@ module _ {R B E : Type 0} where
 
   -- what a grab that took the row found: its position, its entry words and its content. The row is linked, and the pass did not hold it
   pub record Finds (row : ℕ) (v : PassView R B E) : Type 0 where
+    pub there : row < v.layout.rows
     pub place : Place
     pub known : IsKnownPlace v row place
     pub words : List ℕ
