@@ -39,6 +39,7 @@ use Rattle.row_table.specs.Vacant.{KeepsVacant}
 use Rattle.row_table.specs.Known.{IsAnother}
 use Rattle.row_table.specs.Books.{given, region, swept_rows, taken_rows, give_of, MayGive, turned, waited, hand_rows, gave, Learns, TurnSays, TurnTells, GiveSays, GiveTells}
 use Rattle.row_table.proofs.Told.{same_front}
+use Rattle.row_table.proofs.Known.{right_now}
 use Rattle.row_table.proofs.Shown.{ShowSame, book_shows}
 use Rattle.row_table.proofs.Frames.{moved, moved_here, knows_shown, contents_booked}
 use Rattle.row_table.proofs.Views.{head_or_later, pass_is, knows_it, is_linked, held_of_row, has_held}
@@ -113,6 +114,7 @@ module _ {R B E : Type 0} (M : Meaning R B E) where
       let parts : (r : ℕ) → times r (M.free h.book) + times r (put_rows (M.limbo h.book)) + times_in_hand r v.core ≤ times_out c r
       = λ r. (let p = parts-le-out c v.number r (omega arith) in let f = h.same_free r in let i = ap (times_in_hand r) (pass_is M k first s h v mine) in omega arith) in
       record {
+        right = right_now M k first s h v mine;
         seen = know.seen;
         mine = know.mine;
         fixed = λ a is. let same : first ≡ a = cc in subst (λ (b : B). M.same_fixed b h.book) same h.fixed;

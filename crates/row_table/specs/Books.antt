@@ -30,7 +30,7 @@ use Rattle.row_table.specs.declared.view.HandRow.{HandRow}
 use Rattle.row_table.specs.Plan.{Meaning, Region}
 use Rattle.row_table.specs.Rule.{Slot, Seat, levels_of, StartsWith, SameRows, view, own_places, core_of, Agrees}
 use Rattle.row_table.specs.Vacant.{vacant_entries}
-use Rattle.row_table.specs.Known.{IsAnother}
+use Rattle.row_table.specs.Known.{IsAnother, IsRight}
 use Rattle.row_table.specs.Moves.{NotInHand}
 
 abbrev pub given : {R : Type 0} → HeldRow R → HeldRow R
@@ -110,6 +110,7 @@ module _ {R B E : Type 0} where
 
     -- of a book that was got, where there are so many rows: it goes on from what the pass knows, and its rows are in no other list
     pub record Learns (rows : ℕ) (v : PassView R B E) (book : B) : Type 0 where
+      pub right : IsRight v
       pub seen : StartsWith (M.journal book) v.seen
       pub mine : v.mine ≡ own_places M v.number (M.journal book)
       pub fixed : (first : B) → v.origin ≡ Some first → M.same_fixed first book

@@ -70,3 +70,9 @@ returns-then-found-eq-LAST-clause-layout g c = same_layout c.args.self.now.sized
 
 pub returns-clause-layout : goal.returns-clause-layout
 returns-clause-layout g c = same_layout c.args.self.now.sized _ c.args.iron.now.layout c.requires.table c.args.iron.now.sized.0 c.args.iron.now.sized.1
+
+pub returns-then-found-eq-LAST-clause-right : goal.returns-then-found-eq-LAST-clause-right
+returns-then-found-eq-LAST-clause-right g c = (c.load-found.ensures.2 c.args.self.now.number c.args.self.now.one.1).3
+
+pub returns-clause-right : goal.returns-clause-right
+returns-clause-right g c = (c.load-found.ensures.2 c.args.self.now.number c.args.self.now.one.1).3
