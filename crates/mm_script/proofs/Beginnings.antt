@@ -1,56 +1,33 @@
 -- With which lines a script begins.
-use Rattle.std.proofs.Common.{◌≡◌, ◌≢◌, ℕ, ◌<◌, ◌^◌, List, [], ◌∷◌, ◌++◌, length, map, codes, refl, sym, ap, ◌∙◌, arith}
+use Rattle.std.proofs.Common.{◌≡◌, ◌≢◌, ℕ, ◌+◌, ◌<◌, ◌^◌, List, [], ◌∷◌, ◌++◌, length, codes, refl, sym, ap, subst, ◌∙◌, arith}
 use Rattle.std.specs.List.{All, flat_map}
-use Rattle.std.proofs.lemmas.List.{append-nil}
-use Rattle.std.proofs.lemmas.List.Elements.{All-nil, All-cons, All-head, All-tail}
+use Rattle.std.proofs.lemmas.List.{append-nil, append_assoc, length-append}
+use Rattle.std.proofs.lemmas.List.Elements.{All-nil, All-cons, All-push}
 use Rattle.corten_base.specs.declared.calls.Call.{Call}
 use Rattle.corten_base.specs.declared.numbers.Limits.{Limits}
 use Rattle.text_words.specs.Spelling.{number}
 use Rattle.text_words.specs.Layout.{IsWord, joined, words_of}
 use Rattle.text_words.proofs.WordLists.{joined-words_of, words_of-joined}
 use Rattle.mm_script.specs.CallLine.{call_line, IsCall, IsWithin}
-use Rattle.mm_script.specs.ScriptText.{limit_words, limit_lines, thread_lines, script_lines, AreLimits, AreThreads, IsScript, Begins}
+use Rattle.mm_script.specs.ScriptText.{limit_words, limit_lines, file_line, file_lines, header_lines, thread_lines, script_lines, most_threads, AreLimits, IsFile, AreFiles, AreThreads, IsScript, Begins}
 use Rattle.mm_script.specs.declared.script.Script.{Script}
 use Rattle.mm_script.proofs.OneCall.{HasNo_letters, length_word_has_no}
+use Rattle.mm_script.proofs.Following.{AfterFiles, after_files, after_threads, first_thread, no_file, no_call}
 
--- a script of one thread
-abbrev pub script_of : Limits → List Call → Script
-script_of limits calls = record { limits = limits; threads = calls ∷ [] }
+abbrev pub script_of : Limits → List (List ℕ) → List (List Call) → Script
+script_of limits files threads = record { limits = limits; shelf = files; threads = threads }
 
 abbrev pub limits_of : ℕ → ℕ → ℕ → Limits
 limits_of frames tables swap = record { frames = frames; tables = tables; swap = swap }
 
-pub IsScript-from : (limits : Limits) (calls : List Call) → AreLimits limits → All IsCall calls → IsScript (script_of limits calls)
-IsScript-from limits calls are_limits are_calls = record {
-  limits = are_limits;
-  threads = record { count = refl; calls = All-cons (All IsCall) calls [] are_calls (All-nil (All IsCall)) };
-}
+-- the lines of threads, of which the last may go on
+abbrev pub open_lines : List (List Call) → List Call → List (List ℕ)
+open_lines threads calls = flat_map thread_lines (threads ++ calls ∷ [])
 
--- the lines of a script of one thread
-pub thread-lines : (limits : Limits) (calls : List Call) → script_lines (script_of limits calls) ≡ limit_lines limits ++ thread_lines calls
-thread-lines limits calls = ap (λ ls. limit_lines limits ++ ls) (append-nil (thread_lines calls))
-
--- each script is one of one thread
-pub record OneThread (script : Script) : Type 0 where
-  pub calls : List Call
-  pub is_one : script.threads ≡ calls ∷ []
-  pub are_calls : All IsCall calls
-  pub lines : script_lines script ≡ limit_lines script.limits ++ thread_lines calls
-
-one_thread : (limits : Limits) (threads : List (List Call)) → AreThreads threads → (calls : List Call) × (threads ≡ calls ∷ []) × All IsCall calls
-one_thread limits [] h = absurd (let count : 0 ≡ 1 = h.count in omega arith)
-one_thread limits (calls ∷ []) h = (calls, refl, All-head (All IsCall) calls [] h.calls)
-one_thread limits (calls ∷ more ∷ threads) h = absurd (let count : length (calls ∷ more ∷ threads) ≡ 1 = h.count in omega arith)
-
-pub OneThread-from : (script : Script) → IsScript script → OneThread script
-OneThread-from script h =
-    let one = one_thread script.limits script.threads h.threads in
-    record {
-      calls = one.0;
-      is_one = one.1;
-      are_calls = one.2;
-      lines = ap (λ threads. limit_lines script.limits ++ flat_map thread_lines threads) one.1 ∙ thread-lines script.limits one.0;
-    }
+pub AreThreads-open : (threads : List (List Call)) (calls : List Call) → All (All IsCall) threads → All IsCall calls → length threads < most_threads → AreThreads (threads ++ calls ∷ [])
+AreThreads-open threads calls are_threads are_calls few =
+    let count : length (threads ++ calls ∷ []) ≡ length threads + 1 = length-append threads (calls ∷ []) in
+    record { count = (omega arith, omega arith); calls = All-push (All IsCall) threads calls are_threads are_calls }
 
 -- the words of a limit's line
 pub limit_words_are : (name : List ℕ) (n : ℕ) → IsWord name → n < 2 ^ 64 → words_of (joined (limit_words name n)) ≡ limit_words name n
@@ -75,39 +52,50 @@ limit_line_is line name n are = sym (joined-words_of line) ∙ ap joined are
 smallest : AreLimits (limits_of 1 1 0)
 smallest = record { frames = (omega arith, omega arith); tables = (omega arith, omega arith); swap = (omega arith, omega arith) }
 
+no_files : AreFiles []
+no_files = record { count = omega arith; each = All-nil IsFile }
+
+one_thread : AreThreads ([] ∷ [])
+one_thread = record { count = (omega arith, omega arith); calls = All-cons (All IsCall) [] [] (All-nil IsCall) (All-nil (All IsCall)) }
+
 pub Begins-none : Begins []
-Begins-none = record { script = script_of (limits_of 1 1 0) []; more = script_lines (script_of (limits_of 1 1 0) []); is_script = IsScript-from (limits_of 1 1 0) [] smallest (All-nil IsCall); goes_on = refl }
+Begins-none = record {
+  script = script_of (limits_of 1 1 0) [] ([] ∷ []);
+  more = script_lines (script_of (limits_of 1 1 0) [] ([] ∷ []));
+  is_script = record { limits = smallest; files = no_files; threads = one_thread };
+  goes_on = refl;
+}
 
 pub Begins-frames : (f : ℕ) → IsWithin 1 4096 f → Begins (joined (limit_words (codes "frames") f) ∷ [])
 Begins-frames f h = record {
-  script = script_of (limits_of f 1 0) [];
+  script = script_of (limits_of f 1 0) [] ([] ∷ []);
   more = joined (limit_words (codes "tables") 1) ∷ joined (limit_words (codes "swap") 0) ∷ codes "thread" ∷ [];
-  is_script = IsScript-from (limits_of f 1 0) [] (record { frames = h; tables = smallest.tables; swap = smallest.swap }) (All-nil IsCall);
+  is_script = record { limits = record { frames = h; tables = smallest.tables; swap = smallest.swap }; files = no_files; threads = one_thread };
   goes_on = refl;
 }
 
 pub Begins-tables : (f t : ℕ) → IsWithin 1 4096 f → IsWithin 1 1023 t → Begins (joined (limit_words (codes "frames") f) ∷ joined (limit_words (codes "tables") t) ∷ [])
 Begins-tables f t hf ht = record {
-  script = script_of (limits_of f t 0) [];
+  script = script_of (limits_of f t 0) [] ([] ∷ []);
   more = joined (limit_words (codes "swap") 0) ∷ codes "thread" ∷ [];
-  is_script = IsScript-from (limits_of f t 0) [] (record { frames = hf; tables = ht; swap = smallest.swap }) (All-nil IsCall);
+  is_script = record { limits = record { frames = hf; tables = ht; swap = smallest.swap }; files = no_files; threads = one_thread };
   goes_on = refl;
 }
 
-pub Begins-limits : (limits : Limits) → AreLimits limits → Begins (limit_lines limits)
-Begins-limits limits h = record {
-  script = script_of limits [];
+pub Begins-header : (limits : Limits) (files : List (List ℕ)) → AreLimits limits → AreFiles files → Begins (header_lines limits files)
+Begins-header limits files hl hf = record {
+  script = script_of limits files ([] ∷ []);
   more = codes "thread" ∷ [];
-  is_script = IsScript-from limits [] h (All-nil IsCall);
+  is_script = record { limits = hl; files = hf; threads = one_thread };
   goes_on = refl;
 }
 
-pub Begins-calls : (limits : Limits) (calls : List Call) → AreLimits limits → All IsCall calls → Begins (limit_lines limits ++ thread_lines calls)
-Begins-calls limits calls h g = record {
-  script = script_of limits calls;
+pub Begins-calls : (limits : Limits) (files : List (List ℕ)) (threads : List (List Call)) (calls : List Call) → AreLimits limits → AreFiles files → All (All IsCall) threads → All IsCall calls → length threads < most_threads → Begins (header_lines limits files ++ open_lines threads calls)
+Begins-calls limits files threads calls hl hf ht hc few = record {
+  script = script_of limits files (threads ++ calls ∷ []);
   more = [];
-  is_script = IsScript-from limits calls h g;
-  goes_on = append-nil (limit_lines limits ++ thread_lines calls) ∙ sym (thread-lines limits calls);
+  is_script = record { limits = hl; files = hf; threads = AreThreads-open threads calls ht hc few };
+  goes_on = append-nil (header_lines limits files ++ open_lines threads calls);
 }
 
 -- what does not begin one: no line of this limit comes
@@ -135,25 +123,33 @@ no_swap first second line none b =
     let goes_on = b.goes_on in
     limit_is_within line (codes "swap") n 0 4096 swap_IsWord (omega (arith, within.1)) within none (cc goes_on)
 
-pub no_thread : (limits : Limits) (line : List ℕ) → line ≢ codes "thread" → ¬ (Begins (limit_lines limits ++ line ∷ []))
-no_thread limits line none b =
-    let one = OneThread-from b.script b.is_script in
-    let goes_on = b.goes_on ∙ one.lines in
-    none (cc goes_on)
+-- what follows the limits of a script
+pub behind_limits : (limits : Limits) (lines : List (List ℕ)) (script : Script) → IsScript script → limit_lines limits ++ lines ≡ script_lines script → AfterFiles 0 lines
+behind_limits limits lines script h are = record { files = script.shelf; threads = script.threads; are = cc are; are_files = h.files.each; are_threads = h.threads; few = omega (arith, h.files.count) }
 
--- a call's line stands at each place behind the thread's
-call_at : (calls others : List Call) (line : List ℕ) (more : List (List ℕ)) → All IsCall others → (map call_line calls ++ line ∷ []) ++ more ≡ map call_line others → (c : Call) × IsCall c × (line ≡ call_line c)
-call_at [] [] line more h same = absurd (cc)
-call_at [] (c ∷ others) line more h same = (c, All-head IsCall c others h, cc)
-call_at (c ∷ calls) [] line more h same = absurd (cc)
-call_at (c ∷ calls) (d ∷ others) line more h same = call_at calls others line more (All-tail IsCall d others h) (cc)
+-- what follows the limits, the lines of files and one more line
+behind_header : (limits : Limits) (files : List (List ℕ)) (rest : List (List ℕ)) (b : Begins (header_lines limits files ++ rest)) → All IsFile files → AfterFiles (length files) (rest ++ b.more)
+behind_header limits files rest b are_files =
+    let shape : limit_lines limits ++ (file_lines files ++ (rest ++ b.more)) ≡ script_lines b.script =
+    sym (append_assoc (limit_lines limits) (file_lines files) (rest ++ b.more)) ∙ sym (append_assoc (header_lines limits files) rest b.more) ∙ b.goes_on in
+    after_files files 0 (length files) (rest ++ b.more) are_files (omega arith)
+    (behind_limits limits (file_lines files ++ (rest ++ b.more)) b.script b.is_script shape)
 
-pub no_call : (limits : Limits) (calls : List Call) (line : List ℕ) → ((c : Call) → IsCall c → line ≢ call_line c) → ¬ (Begins ((limit_lines limits ++ thread_lines calls) ++ line ∷ []))
-no_call limits calls line none b =
-    let one = OneThread-from b.script b.is_script in
-    let goes_on = b.goes_on ∙ one.lines in
-    let found = call_at calls one.calls line b.more one.are_calls (cc goes_on) in
-    none found.0 found.1 found.2
+pub no_header : (limits : Limits) (files : List (List ℕ)) (line : List ℕ) → AreFiles files → line ≢ codes "thread" → (length files < 16 → (bytes : List ℕ) → IsFile bytes → line ≢ file_line bytes) → ¬ (Begins (header_lines limits files ++ line ∷ []))
+no_header limits files line hf other none b = no_file (length files) line b.more (behind_header limits files (line ∷ []) b hf.each) other none
+
+pub no_line : (limits : Limits) (files : List (List ℕ)) (threads : List (List Call)) (calls : List Call) (line : List ℕ) → AreFiles files → All (All IsCall) threads → All IsCall calls → (line ≡ codes "thread" → length threads + 1 ≡ most_threads) → ((c : Call) → IsCall c → line ≢ call_line c) → ¬ (Begins ((header_lines limits files ++ open_lines threads calls) ++ line ∷ []))
+no_line limits files threads calls line hf ht hc last none b =
+    let rest : List (List ℕ) = open_lines threads calls ++ line ∷ [] in
+    let front : Begins (header_lines limits files ++ rest) =
+    record { script = b.script; more = b.more; is_script = b.is_script; goes_on = ap (λ ls. ls ++ b.more) (sym (append_assoc (header_lines limits files) (open_lines threads calls) (line ∷ []))) ∙ b.goes_on } in
+    let count : length (threads ++ calls ∷ []) ≡ length threads + 1 = length-append threads (calls ∷ []) in
+    let behind : AfterFiles (length files) (open_lines threads calls ++ (line ∷ b.more)) =
+    subst (AfterFiles (length files)) (append_assoc (open_lines threads calls) (line ∷ []) b.more) (behind_header limits files rest front hf.each) in
+    no_call (length threads + 1) line b.more
+    (after_threads (threads ++ calls ∷ []) 0 (length threads + 1) (line ∷ b.more) (All-push (All IsCall) threads calls ht hc) (omega arith)
+    (first_thread threads calls (length files) (line ∷ b.more) behind))
+    last none
 
 -- lines that are not all of a script's
 pub wants_frames : (script : Script) → IsScript script → [] ≢ script_lines script
@@ -165,5 +161,13 @@ wants_tables first script h same = cc same
 pub wants_swap : (first second : List ℕ) (script : Script) → IsScript script → first ∷ second ∷ [] ≢ script_lines script
 wants_swap first second script h same = cc same
 
-pub wants_thread : (limits : Limits) (script : Script) → IsScript script → limit_lines limits ≢ script_lines script
-wants_thread limits script h same = let one = OneThread-from script h in let whole = same ∙ one.lines in cc whole
+pub wants_thread : (limits : Limits) (files : List (List ℕ)) (script : Script) → AreFiles files → IsScript script → header_lines limits files ≢ script_lines script
+wants_thread limits files script hf h same =
+    let after = after_files files 0 (length files) [] hf.each (omega arith)
+    (behind_limits limits (file_lines files ++ []) script h (sym (append_assoc (limit_lines limits) (file_lines files) []) ∙ append-nil (header_lines limits files) ∙ same)) in
+    ends_not after.files after.threads after.are after.are_threads
+  where
+    ends_not : (files : List (List ℕ)) (threads : List (List Call)) → [] ≡ file_lines files ++ flat_map thread_lines threads → AreThreads threads → ⊥
+    ends_not [] [] are h = omega (arith, h.count.0)
+    ends_not [] (t ∷ ts) are h = cc
+    ends_not (f ∷ fs) ts are h = cc

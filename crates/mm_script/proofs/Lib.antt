@@ -1,5 +1,7 @@
 pub mod Beginnings
 pub mod CallForms
+pub mod FileLines
+pub mod Following
 pub mod OneCall
 pub mod OneScript
 pub mod Places

@@ -1,5 +1,5 @@
 -- A line is that of one call at most, and its words are the call's.
-use Rattle.std.proofs.Common.{◌≡◌, ◌≢◌, ℕ, ◌<◌, ◌^◌, true, ltb, List, [], ◌∷◌, ◌++◌, codes, refl, sym, ap, ◌∙◌, arith}
+use Rattle.std.proofs.Common.{◌≡◌, ◌≢◌, ℕ, ◌<◌, ◌≤◌, ◌^◌, Bool, true, false, ltb, List, [], ◌∷◌, ◌++◌, codes, refl, sym, ap, ◌∙◌, arith}
 use Rattle.std.specs.Prelude.{Option, Some, None, IfSome, IfNone}
 use Rattle.std.specs.List.{All, list_all}
 use Rattle.std.proofs.lemmas.Bool.{and_parts, ltb-true}
@@ -13,37 +13,62 @@ use Rattle.corten_base.specs.declared.calls.Backing.TheVariants as backing
 use Rattle.corten_base.specs.declared.calls.Call.{Call}
 use Rattle.corten_base.specs.declared.calls.Call.TheVariants as call
 use Rattle.text_words.specs.Layout.{HasNo, IsLine, joined, words_of}
-use Rattle.text_words.specs.Spelling.{number, address, hex, permission}
-use Rattle.text_words.proofs.OneValue.{number_injective, address_injective, hex_injective}
+use Rattle.text_words.specs.Spelling.{number, address, permission}
+use Rattle.text_words.proofs.OneValue.{number_injective, address_injective, hex_injective, permission_injective}
 use Rattle.text_words.proofs.SpelledBytes.{IsNoDigit-below, HasNo-number, HasNo-address, HasNo-hex, HasNo-permission, HasNo-joined}
 use Rattle.text_words.proofs.WordLists.{joined-words_of, words_of-joined}
-use Rattle.mm_script.specs.CallLine.{place_words, backing_words, call_words, call_line, IsSpace, IsPlace, IsBacking, IsCall}
-use Rattle.mm_script.proofs.CallForms.{map_words-append, after_place, no_words}
+use Rattle.mm_script.specs.CallLine.{place_words, backing_words, access_word, call_words, call_line, IsSpace, IsNumber, IsPlace, IsBacking, IsCall}
+use Rattle.mm_script.proofs.CallForms.{other_word, map_words-append, no_words}
 
 -- the same call, and the same words behind it
 pub record SameCall (a b : Call) (x y : List (List ℕ)) : Type 0 where
   pub calls : a ≡ b
   pub rest : x ≡ y
 
+same_number : (m n high : ℕ) → m ≤ high → n ≤ high → high ≤ 4096 → number m ≡ number n → m ≡ n
+same_number m n high hm hn small same = number_injective m n (omega arith) (omega arith) same
+
+same_space : (a b : ℕ) → IsSpace a → IsSpace b → number a ≡ number b → a ≡ b
+same_space a b ha hb same = number_injective a b (omega arith) (omega arith) same
+
+-- the same place, and the same words behind it
+pub same_place : (a b : MapPlace) (x y : List (List ℕ)) → IsPlace a → IsPlace b → place_words a ++ x ≡ place_words b ++ y → (a ≡ b) × (x ≡ y)
+same_place place.Any place.Any x y ha hb same = (refl, cc)
+same_place (place.At at) (place.At at') x y ha hb same = (ap place.At (address_injective at at' ha hb (cc)), cc)
+same_place (place.New at) (place.New at') x y ha hb same = (ap place.New (address_injective at at' ha hb (cc)), cc)
+same_place place.Any (place.At at') x y ha hb same = absurd (other_word (codes "any") (codes "at") _ _ refl same)
+same_place place.Any (place.New at') x y ha hb same = absurd (other_word (codes "any") (codes "new") _ _ refl same)
+same_place (place.At at) place.Any x y ha hb same = absurd (other_word (codes "at") (codes "any") _ _ refl same)
+same_place (place.At at) (place.New at') x y ha hb same = absurd (other_word (codes "at") (codes "new") _ _ refl same)
+same_place (place.New at) place.Any x y ha hb same = absurd (other_word (codes "new") (codes "any") _ _ refl same)
+same_place (place.New at) (place.At at') x y ha hb same = absurd (other_word (codes "new") (codes "at") _ _ refl same)
+
+-- no number stands behind a place
+pub no_length : (words behind_space behind_place rest : List (List ℕ)) (space space' len : ℕ) (at at' : MapPlace) → IsPlace at → IsPlace at' → words ≡ number space ∷ behind_space → behind_space ≡ place_words at ++ behind_place → IsNumber len
+    → ((n : ℕ) (more : List (List ℕ)) → IsNumber n → behind_place ≢ number n ∷ more) → words ≢ number space' ∷ (place_words at' ++ number len ∷ rest)
+no_length words behind_space behind_place rest space space' len at at' ha hb space_is place_is fits none are =
+    let both : number space ∷ (place_words at ++ behind_place) ≡ number space' ∷ (place_words at' ++ number len ∷ rest) = ap (λ ws. number space ∷ ws) (sym place_is) ∙ sym space_is ∙ are in
+    none len rest fits (same_place at at' behind_place (number len ∷ rest) ha hb (cc both)).1
+
+same_file : (file index file' index' : ℕ) → file ≡ file' → index ≡ index' → backing.File file index ≡ backing.File file' index'
+same_file file index file' index' f n = λ i. backing.File (f i) (n i)
+
+-- the same backing, and the same words behind it
+pub same_backing : (a b : Backing) (x y : List (List ℕ)) → IsBacking a → IsBacking b → backing_words a ++ x ≡ backing_words b ++ y → (a ≡ b) × (x ≡ y)
+same_backing backing.Zero backing.Zero x y ha hb same = (refl, cc)
+same_backing (backing.File file index) (backing.File file' index') x y ha hb same =
+    (same_file file index file' index' (same_number file file' 15 ha.0.1 hb.0.1 (omega arith) (cc)) (number_injective index index' ha.1 hb.1 (cc)), cc)
+same_backing backing.Zero (backing.File file' index') x y ha hb same = absurd (other_word (codes "zero") (codes "file") _ _ refl same)
+same_backing (backing.File file index) backing.Zero x y ha hb same = absurd (other_word (codes "file") (codes "zero") _ _ refl same)
+
+access_word_injective : (a b : Bool) → access_word a ≡ access_word b → a ≡ b
+access_word_injective true true same = refl
+access_word_injective false false same = refl
+access_word_injective true false same = absurd (other_word (codes "w") (codes "r") [] [] refl (ap (λ w. w ∷ []) same))
+access_word_injective false true same = absurd (other_word (codes "r") (codes "w") [] [] refl (ap (λ w. w ∷ []) same))
+
 same_map : (space space' len len' : ℕ) (at at' : MapPlace) (perm perm' : Perm) (what what' : Backing) → space ≡ space' → at ≡ at' → len ≡ len' → perm ≡ perm' → what ≡ what' → call.Map space at len perm what ≡ call.Map space' at' len' perm' what'
 same_map space space' len len' at at' perm perm' what what' s a l p w = λ i. call.Map (s i) (a i) (l i) (p i) (w i)
-
-same_place : (a b : MapPlace) → IsPlace a → IsPlace b → a ≡ b
-same_place place.Any place.Any ha hb = refl
-same_place place.Any (place.At at) ha hb = absurd hb
-same_place place.Any (place.New at) ha hb = absurd hb
-same_place (place.At at) b ha hb = absurd ha
-same_place (place.New at) b ha hb = absurd ha
-
-same_backing : (a b : Backing) → IsBacking a → IsBacking b → a ≡ b
-same_backing backing.Zero backing.Zero ha hb = refl
-same_backing backing.Zero (backing.File file index) ha hb = absurd hb
-same_backing (backing.File file index) b ha hb = absurd ha
-
-after_backing : (a b : Backing) (x y : List (List ℕ)) → IsBacking a → IsBacking b → backing_words a ++ x ≡ backing_words b ++ y → x ≡ y
-after_backing backing.Zero backing.Zero x y ha hb same = cc
-after_backing backing.Zero (backing.File file index) x y ha hb same = absurd hb
-after_backing (backing.File file index) b x y ha hb same = absurd ha
 
 one_map : (space len : ℕ) (at : MapPlace) (perm : Perm) (what : Backing) (b : Call) (x y : List (List ℕ)) → IsCall (call.Map space at len perm what) → IsCall b → call_words (call.Map space at len perm what) ++ x ≡ call_words b ++ y → SameCall (call.Map space at len perm what) b x y
 one_map space len at perm what (call.Map space' at' len' perm' what') x y ha hb same =
@@ -51,43 +76,63 @@ one_map space len at perm what (call.Map space' at' len' perm' what') x y ha hb 
     let behind' : List (List ℕ) = number len' ∷ permission perm' ∷ (backing_words what' ++ y) in
     let whole : codes "map" ∷ number space ∷ (place_words at ++ behind) ≡ codes "map" ∷ number space' ∷ (place_words at' ++ behind') =
     sym (map_words-append space len at perm what x) ∙ same ∙ map_words-append space' len' at' perm' what' y in
-    let from_place : place_words at ++ behind ≡ place_words at' ++ behind' = cc whole in
-    let from_length : behind ≡ behind' = after_place at at' behind behind' ha.1 hb.1 from_place in
-    let lengths : len ≡ len' = number_injective len len' ha.2 hb.2 (cc from_length) in
-    let from_backing : backing_words what ++ x ≡ backing_words what' ++ y = cc from_length in
-    record {
-      calls = same_map space space' len len' at at' perm perm' what what' (ha.0 ∙ sym hb.0) (same_place at at' ha.1 hb.1) lengths (ha.3 ∙ sym hb.3) (same_backing what what' ha.4 hb.4);
-      rest = after_backing what what' x y ha.4 hb.4 from_backing;
-    }
-one_map space len at perm what (call.Load space' at' len') x y ha hb same = absurd (cc)
-one_map space len at perm what (call.Store space' at' bytes') x y ha hb same = absurd (cc)
-one_map space len at perm what _ x y ha hb same = absurd hb
+    let places = same_place at at' behind behind' ha.1 hb.1 (cc whole) in
+    let spaces : space ≡ space' = same_space space space' ha.0 hb.0 (cc whole) in
+    let lengths : len ≡ len' = number_injective len len' ha.2 hb.2 (cc (places.1)) in
+    let perms : perm ≡ perm' = permission_injective perm perm' (cc (places.1)) in
+    let backings = same_backing what what' x y ha.3 hb.3 (cc (places.1)) in
+    record { calls = same_map space space' len len' at at' perm perm' what what' spaces places.0 lengths perms backings.0; rest = backings.1 }
+one_map space len at perm what _ x y ha hb same = absurd (other_word (codes "map") _ _ _ refl same)
+
+one_unmap : (space at len : ℕ) (b : Call) (x y : List (List ℕ)) → IsCall (call.Unmap space at len) → IsCall b → call_words (call.Unmap space at len) ++ x ≡ call_words b ++ y → SameCall (call.Unmap space at len) b x y
+one_unmap space at len (call.Unmap space' at' len') x y ha hb same =
+    let spaces : space ≡ space' = same_space space space' ha.0 hb.0 (cc) in
+    let places : at ≡ at' = address_injective at at' ha.1 hb.1 (cc) in
+    let lengths : len ≡ len' = number_injective len len' ha.2 hb.2 (cc) in
+    record { calls = λ i. call.Unmap (spaces i) (places i) (lengths i); rest = cc }
+one_unmap space at len _ x y ha hb same = absurd (other_word (codes "unmap") _ _ _ refl same)
+
+one_protect : (space at len : ℕ) (perm : Perm) (b : Call) (x y : List (List ℕ)) → IsCall (call.Protect space at len perm) → IsCall b → call_words (call.Protect space at len perm) ++ x ≡ call_words b ++ y → SameCall (call.Protect space at len perm) b x y
+one_protect space at len perm (call.Protect space' at' len' perm') x y ha hb same =
+    let spaces : space ≡ space' = same_space space space' ha.0 hb.0 (cc) in
+    let places : at ≡ at' = address_injective at at' ha.1 hb.1 (cc) in
+    let lengths : len ≡ len' = number_injective len len' ha.2 hb.2 (cc) in
+    let perms : perm ≡ perm' = permission_injective perm perm' (cc) in
+    record { calls = λ i. call.Protect (spaces i) (places i) (lengths i) (perms i); rest = cc }
+one_protect space at len perm _ x y ha hb same = absurd (other_word (codes "protect") _ _ _ refl same)
 
 one_load : (space at len : ℕ) (b : Call) (x y : List (List ℕ)) → IsCall (call.Load space at len) → IsCall b → call_words (call.Load space at len) ++ x ≡ call_words b ++ y → SameCall (call.Load space at len) b x y
-one_load space at len (call.Map space' at' len' perm' what') x y ha hb same = absurd (cc)
 one_load space at len (call.Load space' at' len') x y ha hb same =
-    let spaces : space ≡ space' = ha.0 ∙ sym hb.0 in
+    let spaces : space ≡ space' = same_space space space' ha.0 hb.0 (cc) in
     let places : at ≡ at' = address_injective at at' ha.1 hb.1 (cc) in
-    let lengths : len ≡ len' = number_injective len len' (omega (arith, ha.2.1)) (omega (arith, hb.2.1)) (cc) in
+    let lengths : len ≡ len' = same_number len len' 4096 ha.2.1 hb.2.1 (omega arith) (cc) in
     record { calls = λ i. call.Load (spaces i) (places i) (lengths i); rest = cc }
-one_load space at len (call.Store space' at' bytes') x y ha hb same = absurd (cc)
-one_load space at len _ x y ha hb same = absurd hb
+one_load space at len _ x y ha hb same = absurd (other_word (codes "load") _ _ _ refl same)
 
 one_store : (space at : ℕ) (bytes : List ℕ) (b : Call) (x y : List (List ℕ)) → IsCall (call.Store space at bytes) → IsCall b → call_words (call.Store space at bytes) ++ x ≡ call_words b ++ y → SameCall (call.Store space at bytes) b x y
-one_store space at bytes (call.Map space' at' len' perm' what') x y ha hb same = absurd (cc)
-one_store space at bytes (call.Load space' at' len') x y ha hb same = absurd (cc)
 one_store space at bytes (call.Store space' at' bytes') x y ha hb same =
-    let spaces : space ≡ space' = ha.0 ∙ sym hb.0 in
+    let spaces : space ≡ space' = same_space space space' ha.0 hb.0 (cc) in
     let places : at ≡ at' = address_injective at at' ha.1 hb.1 (cc) in
     let all : bytes ≡ bytes' = hex_injective bytes bytes' ha.3 hb.3 (cc) in
     record { calls = λ i. call.Store (spaces i) (places i) (all i); rest = cc }
-one_store space at bytes _ x y ha hb same = absurd hb
+one_store space at bytes _ x y ha hb same = absurd (other_word (codes "store") _ _ _ refl same)
+
+one_fault : (space at : ℕ) (write : Bool) (b : Call) (x y : List (List ℕ)) → IsCall (call.Fault space at write) → IsCall b → call_words (call.Fault space at write) ++ x ≡ call_words b ++ y → SameCall (call.Fault space at write) b x y
+one_fault space at write (call.Fault space' at' write') x y ha hb same =
+    let spaces : space ≡ space' = same_space space space' ha.0 hb.0 (cc) in
+    let places : at ≡ at' = address_injective at at' ha.1 hb.1 (cc) in
+    let accesses : write ≡ write' = access_word_injective write write' (cc) in
+    record { calls = λ i. call.Fault (spaces i) (places i) (accesses i); rest = cc }
+one_fault space at write _ x y ha hb same = absurd (other_word (codes "fault") _ _ _ refl same)
 
 -- words begin with the words of one call at most
 pub one_call : (a b : Call) (x y : List (List ℕ)) → IsCall a → IsCall b → call_words a ++ x ≡ call_words b ++ y → SameCall a b x y
 one_call (call.Map space at len perm what) b x y ha hb same = one_map space len at perm what b x y ha hb same
+one_call (call.Unmap space at len) b x y ha hb same = one_unmap space at len b x y ha hb same
+one_call (call.Protect space at len perm) b x y ha hb same = one_protect space at len perm b x y ha hb same
 one_call (call.Load space at len) b x y ha hb same = one_load space at len b x y ha hb same
 one_call (call.Store space at bytes) b x y ha hb same = one_store space at bytes b x y ha hb same
+one_call (call.Fault space at write) b x y ha hb same = one_fault space at write b x y ha hb same
 one_call _ b x y ha hb same = absurd ha
 
 -- a byte below the letters does not occur in a word of letters
@@ -97,53 +142,76 @@ HasNo_letters byte (b ∷ bytes) low h =
     let parts = and_parts (ltb 96 b) (list_all (λ c. ltb 96 c) bytes) h in
     All-cons (λ c. c ≢ byte) b bytes (λ e. omega (arith, ltb-true 96 b parts.0)) (HasNo_letters byte bytes low parts.1)
 
-place_words_have_no : (byte : ℕ) (at : MapPlace) → byte < 45 → IsPlace at → All (HasNo byte) (place_words at)
-place_words_have_no byte place.Any low h = All-cons (HasNo byte) (codes "any") [] (HasNo_letters byte (codes "any") low refl) (All-nil (HasNo byte))
-place_words_have_no byte (place.At at) low h = absurd h
-place_words_have_no byte (place.New at) low h = absurd h
-
-backing_words_have_no : (byte : ℕ) (what : Backing) → byte < 45 → IsBacking what → All (HasNo byte) (backing_words what)
-backing_words_have_no byte backing.Zero low h = All-cons (HasNo byte) (codes "zero") [] (HasNo_letters byte (codes "zero") low refl) (All-nil (HasNo byte))
-backing_words_have_no byte (backing.File file index) low h = absurd h
-
-space_word_has_no : (byte space : ℕ) → byte < 45 → IsSpace space → HasNo byte (number space)
-space_word_has_no byte space low h = HasNo-number byte space (omega arith) (IsNoDigit-below byte (omega arith))
-
 pub length_word_has_no : (byte len : ℕ) → byte < 45 → len < 2 ^ 64 → HasNo byte (number len)
 length_word_has_no byte len low h = HasNo-number byte len h (IsNoDigit-below byte (omega arith))
+
+space_word_has_no : (byte space : ℕ) → byte < 45 → IsSpace space → HasNo byte (number space)
+space_word_has_no byte space low h = length_word_has_no byte space low (omega arith)
 
 address_word_has_no : (byte at : ℕ) → byte < 45 → at < 2 ^ 64 → HasNo byte (address at)
 address_word_has_no byte at low h = HasNo-address byte at h (IsNoDigit-below byte (omega arith)) (λ e. omega arith)
 
--- no word of a call has a space or a newline
-pub call_words_have_no : (byte : ℕ) (c : Call) → byte < 45 → IsCall c → All (HasNo byte) (call_words c)
-call_words_have_no byte (call.Map space at len perm what) low h =
-    let P = HasNo byte in
-    let last = backing_words_have_no byte what low h.4 in
-    let from_perm = All-cons P (permission perm) (backing_words what) (HasNo-permission byte perm low) last in
-    let from_len = All-cons P (number len) (permission perm ∷ backing_words what) (length_word_has_no byte len low h.2) from_perm in
-    let from_place = All-append P (place_words at) (number len ∷ permission perm ∷ backing_words what) (place_words_have_no byte at low h.1) from_len in
-    let from_space = All-cons P (number space) (place_words at ++ (number len ∷ permission perm ∷ backing_words what)) (space_word_has_no byte space low h.0) from_place in
-    All-cons P (codes "map") (number space ∷ (place_words at ++ (number len ∷ permission perm ∷ backing_words what))) (HasNo_letters byte (codes "map") low refl) from_space
-call_words_have_no byte (call.Load space at len) low h =
-    let P = HasNo byte in
-    let last = All-cons P (number len) [] (length_word_has_no byte len low (omega (arith, h.2.1))) (All-nil P) in
-    let from_at = All-cons P (address at) (number len ∷ []) (address_word_has_no byte at low h.1) last in
-    let from_space = All-cons P (number space) (address at ∷ number len ∷ []) (space_word_has_no byte space low h.0) from_at in
-    All-cons P (codes "load") (number space ∷ address at ∷ number len ∷ []) (HasNo_letters byte (codes "load") low refl) from_space
-call_words_have_no byte (call.Store space at bytes) low h =
-    let P = HasNo byte in
-    let last = All-cons P (hex bytes) [] (HasNo-hex byte bytes h.3 (IsNoDigit-below byte (omega arith))) (All-nil P) in
-    let from_at = All-cons P (address at) (hex bytes ∷ []) (address_word_has_no byte at low h.1) last in
-    let from_space = All-cons P (number space) (address at ∷ hex bytes ∷ []) (space_word_has_no byte space low h.0) from_at in
-    All-cons P (codes "store") (number space ∷ address at ∷ hex bytes ∷ []) (HasNo_letters byte (codes "store") low refl) from_space
-call_words_have_no byte _ low h = absurd h
+access_word_has_no : (byte : ℕ) (write : Bool) → byte < 45 → HasNo byte (access_word write)
+access_word_has_no byte true low = HasNo_letters byte (codes "w") low refl
+access_word_has_no byte false low = HasNo_letters byte (codes "r") low refl
 
-pub call_words_some : (c : Call) → IsCall c → call_words c ≢ []
-call_words_some c h = λ none. no_words c [] h (sym (append-nil (call_words c) ∙ none))
+-- no word of a call has a space or a newline
+module _ (byte : ℕ) (low : byte < 45) where
+  abbrev P : List ℕ → Type 0
+  P = HasNo byte
+
+  record Clean (words : List (List ℕ)) : Type 0 where
+    pub all : All P words
+
+  one : (w : List ℕ) (ws : List (List ℕ)) → P w → Clean ws → Clean (w ∷ ws)
+  one w ws h hs = record { all = All-cons P w ws h hs.all }
+
+  none : Clean []
+  none = record { all = All-nil P }
+
+  both : (xs ys : List (List ℕ)) → Clean xs → Clean ys → Clean (xs ++ ys)
+  both xs ys h g = record { all = All-append P xs ys h.all g.all }
+
+  place_words_have_no : (at : MapPlace) → IsPlace at → Clean (place_words at)
+  place_words_have_no place.Any h = one _ _ (HasNo_letters byte (codes "any") low refl) none
+  place_words_have_no (place.At at) h = one _ _ (HasNo_letters byte (codes "at") low refl) (one _ _ (address_word_has_no byte at low h) none)
+  place_words_have_no (place.New at) h = one _ _ (HasNo_letters byte (codes "new") low refl) (one _ _ (address_word_has_no byte at low h) none)
+
+  backing_words_have_no : (what : Backing) → IsBacking what → Clean (backing_words what)
+  backing_words_have_no backing.Zero h = one _ _ (HasNo_letters byte (codes "zero") low refl) none
+  backing_words_have_no (backing.File file index) h =
+      one _ _ (HasNo_letters byte (codes "file") low refl)
+      (one _ _ (length_word_has_no byte file low (omega (arith, h.0.1))) (one _ _ (length_word_has_no byte index low h.1) none))
+
+  range_words_have_no : (name : List ℕ) (space at len : ℕ) (ws : List (List ℕ)) → P name → IsSpace space → IsNumber at → len < 2 ^ 64 → Clean ws → Clean (name ∷ number space ∷ address at ∷ number len ∷ ws)
+  range_words_have_no name space at len ws hn hs ha hl h =
+      one _ _ hn (one _ _ (space_word_has_no byte space low hs) (one _ _ (address_word_has_no byte at low ha) (one _ _ (length_word_has_no byte len low hl) h)))
+
+  words_have_no : (c : Call) → IsCall c → Clean (call_words c)
+  words_have_no (call.Map space at len perm what) h =
+      one _ _ (HasNo_letters byte (codes "map") low refl) (one _ _ (space_word_has_no byte space low h.0)
+      (both (place_words at) (number len ∷ permission perm ∷ backing_words what) (place_words_have_no at h.1)
+      (one _ _ (length_word_has_no byte len low h.2) (one _ _ (HasNo-permission byte perm low) (backing_words_have_no what h.3)))))
+  words_have_no (call.Unmap space at len) h = range_words_have_no (codes "unmap") space at len [] (HasNo_letters byte (codes "unmap") low refl) h.0 h.1 h.2 none
+  words_have_no (call.Protect space at len perm) h =
+      range_words_have_no (codes "protect") space at len (permission perm ∷ []) (HasNo_letters byte (codes "protect") low refl) h.0 h.1 h.2 (one _ _ (HasNo-permission byte perm low) none)
+  words_have_no (call.Load space at len) h = range_words_have_no (codes "load") space at len [] (HasNo_letters byte (codes "load") low refl) h.0 h.1 (omega (arith, h.2.1)) none
+  words_have_no (call.Store space at bytes) h =
+      one _ _ (HasNo_letters byte (codes "store") low refl) (one _ _ (space_word_has_no byte space low h.0) (one _ _ (address_word_has_no byte at low h.1)
+      (one _ _ (HasNo-hex byte bytes h.3 (IsNoDigit-below byte (omega arith))) none)))
+  words_have_no (call.Fault space at write) h =
+      one _ _ (HasNo_letters byte (codes "fault") low refl) (one _ _ (space_word_has_no byte space low h.0) (one _ _ (address_word_has_no byte at low h.1)
+      (one _ _ (access_word_has_no byte write low) none)))
+  words_have_no _ h = absurd h
+
+pub call_words_have_no : (byte : ℕ) (c : Call) → byte < 45 → IsCall c → All (HasNo byte) (call_words c)
+call_words_have_no byte c low h = (words_have_no byte low c h).all
+
+pub call_words_some : (c : Call) → call_words c ≢ []
+call_words_some c = λ none. no_words c [] (sym (append-nil (call_words c) ∙ none))
 
 pub words_of-call_line : (c : Call) → IsCall c → words_of (call_line c) ≡ call_words c
-words_of-call_line c h = words_of-joined (call_words c) (call_words_some c h) (call_words_have_no 32 c (omega arith) h)
+words_of-call_line c h = words_of-joined (call_words c) (call_words_some c) (call_words_have_no 32 c (omega arith) h)
 
 pub call_line_IsLine : (c : Call) → IsCall c → IsLine (call_line c)
 call_line_IsLine c h = HasNo-joined 10 (call_words c) (λ e. cc) (call_words_have_no 10 c (omega arith) h)

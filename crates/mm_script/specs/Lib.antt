@@ -1,3 +1,4 @@
 pub mod CallLine
+pub mod CallNames
 pub mod Reading
 pub mod ScriptText

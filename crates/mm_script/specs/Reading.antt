@@ -3,10 +3,14 @@
 --     NoNext      no whole line that is kept is left
 --     NoLine      the next line that is kept is no such line, or there is none
 --     Passes      the kept lines between two places
+--     lines_behind      the lines of threads behind the first `thread`
 --     FaultFrom      the first line outside the grammar, after some lines of a script
-use Rattle.std.specs.Prelude.{◌≡◌, ℕ, ◌+◌, List, [], ◌∷◌, ◌++◌, length, All}
+use Rattle.std.specs.Prelude.{◌≡◌, ℕ, ◌+◌, List, [], ◌∷◌, ◌++◌, length, map, All}
+use Rattle.std.specs.List.{flat_map}
+use Rattle.corten_base.specs.declared.calls.Call.{Call}
 use Rattle.text_words.specs.Layout.{IsLine, words_of, ended, text, TextRest}
-use Rattle.mm_script.specs.ScriptText.{kept, Begins, Fault}
+use Rattle.mm_script.specs.CallLine.{call_line}
+use Rattle.mm_script.specs.ScriptText.{kept, thread_lines, Begins, Fault}
 
 -- from old to new: lines that are skipped, and this line
 pub record NextLine (old new : TextRest) (line : List ℕ) : Type 0 where
@@ -45,6 +49,10 @@ pub record Passes (old new : TextRest) (lines : List (List ℕ)) : Type 0 where
   pub are_kept : kept between ≡ lines
   pub parted : old.bytes ≡ text between ++ new.bytes
   pub counted : new.taken ≡ old.taken + length between
+
+abbrev pub lines_behind : List (List Call) → List (List ℕ)
+lines_behind [] = []
+lines_behind (calls ∷ threads) = map call_line calls ++ flat_map thread_lines threads
 
 -- Behind these lines of a script, n is the number of the first line outside the grammar.
 pub record FaultFrom (old : TextRest) (lines : List (List ℕ)) (n : ℕ) : Type 0 where

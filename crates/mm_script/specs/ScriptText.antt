@@ -1,15 +1,17 @@
 -- Which bytes are the text of a script, and which line of other bytes is the first outside the grammar.
 --     kept      the lines that are not skipped
+--     limit_lines, file_lines      the lines of limits and of files
+--     header_lines      both, with which a script begins
 --     script_lines      the lines of a script
 --     IsScript      the bounds of a script
 --     IsScriptText      bytes that are the text of a script
 --     Begins      lines with which a script begins
 --     Fault, IsFirstFault      why a line is outside the grammar, and the first such line
-use Rattle.std.specs.Prelude.{◌≡◌, ◌≢◌, ℕ, ◌+◌, ◌==◌, Bool, true, not, ⊤, List, [], ◌∷◌, ◌++◌, length, map, filter, codes, All}
+use Rattle.std.specs.Prelude.{◌≡◌, ◌≢◌, ℕ, ◌+◌, ◌<◌, ◌≤◌, ◌==◌, Bool, true, not, ⊤, List, [], ◌∷◌, ◌++◌, length, map, filter, codes, All}
 use Rattle.std.specs.List.{flat_map}
 use Rattle.corten_base.specs.declared.calls.Call.{Call}
 use Rattle.corten_base.specs.declared.numbers.Limits.{Limits}
-use Rattle.text_words.specs.Spelling.{number}
+use Rattle.text_words.specs.Spelling.{number, hex}
 use Rattle.text_words.specs.Layout.{IsLine, joined, ended, text}
 use Rattle.mm_script.specs.CallLine.{call_line, IsCall, IsWithin}
 use Rattle.mm_script.specs.declared.fault.ScriptFault.{ScriptFault}
@@ -34,24 +36,50 @@ limit_lines limits =
     ∷ joined (limit_words (codes "swap") limits.swap)
     ∷ []
 
+-- `-` for no byte
+abbrev pub file_word : List ℕ → List ℕ
+file_word [] = codes "-"
+file_word (b ∷ bytes) = hex (b ∷ bytes)
+
+abbrev pub file_line : List ℕ → List ℕ
+file_line bytes = joined (codes "file" ∷ file_word bytes ∷ [])
+
+abbrev pub file_lines : List (List ℕ) → List (List ℕ)
+file_lines files = map file_line files
+
+abbrev pub header_lines : Limits → List (List ℕ) → List (List ℕ)
+header_lines limits files = limit_lines limits ++ file_lines files
+
 abbrev pub thread_lines : List Call → List (List ℕ)
 thread_lines calls = codes "thread" ∷ map call_line calls
 
 abbrev pub script_lines : Script → List (List ℕ)
-script_lines script = limit_lines script.limits ++ flat_map thread_lines script.threads
+script_lines script = header_lines script.limits script.shelf ++ flat_map thread_lines script.threads
 
 pub record AreLimits (limits : Limits) : Type 0 where
   pub frames : IsWithin 1 4096 limits.frames
   pub tables : IsWithin 1 1023 limits.tables
   pub swap : IsWithin 0 4096 limits.swap
 
+pub record IsFile (bytes : List ℕ) : Type 0 where
+  pub size : length bytes ≤ 65536
+  pub fit : All (λ b. b < 256) bytes
+
+pub record AreFiles (files : List (List ℕ)) : Type 0 where
+  pub count : length files ≤ 16
+  pub each : All IsFile files
+
 -- one thread alone so far
+abbrev pub most_threads : ℕ
+most_threads = 1
+
 pub record AreThreads (threads : List (List Call)) : Type 0 where
-  pub count : length threads ≡ 1
+  pub count : IsWithin 1 most_threads (length threads)
   pub calls : All (All IsCall) threads
 
 pub record IsScript (script : Script) : Type 0 where
   pub limits : AreLimits script.limits
+  pub files : AreFiles script.shelf
   pub threads : AreThreads script.threads
 
 -- The bytes are lines, each ended by a newline, and those that are kept are the lines of the script.

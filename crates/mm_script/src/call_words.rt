@@ -1,10 +1,10 @@
 //! The words of call lines, one after another.
-ghost use Rattle.std.specs.Prelude.{◌≡◌, ◌≢◌, ℕ, ◌<◌, ◌≤◌, ◌^◌, List, ◌∷◌, ◌++◌, length, All, IsTrue, ◌↔◌, IfOk, IfSome, IfNone, OnSome};
+ghost use Rattle.std.specs.Prelude.{◌≡◌, ◌≢◌, ℕ, ◌<◌, ◌≤◌, ◌^◌, Bool, List, ◌∷◌, ◌++◌, length, All, IsTrue, ◌↔◌, IfOk, IfSome, IfNone, OnSome};
 ghost use Rattle.corten_base.specs.declared.permissions.Perm.{Perm};
 ghost use Rattle.corten_base.specs.declared.calls.MapPlace.{MapPlace};
 ghost use Rattle.corten_base.specs.declared.calls.Backing.{Backing};
 ghost use Rattle.text_words.specs.Spelling.{number, address, hex, permission};
-ghost use Rattle.mm_script.specs.CallLine.{place_words, backing_words, IsSpace, IsPlace, IsPermission, IsBacking, IsAccess, IsWithin};
+ghost use Rattle.mm_script.specs.CallLine.{place_words, backing_words, access_word, IsSpace, IsPlace, IsBacking, IsAccess, IsWithin};
 
 use corten_base::{Backing, ByteList, MapPlace, PAGE_BYTES, Perm, SpaceId};
 use std::alloc::{AllocError, Global};
@@ -52,7 +52,7 @@ pub(crate) fn next_space(words: &mut Words<'_>) -> Option<SpaceId>
     ensures found { IfSome result (λ space. IsSpace space × (words.old ≡ number space ∷ words.new)) }
     ensures none { IfNone result ((space : ℕ) (rest : List (List ℕ)) → IsSpace space → words.old ≢ number space ∷ rest) }
 {
-    let space = next_within(words, 0, 0)?;
+    let space = next_within(words, 0, 63)?;
     SpaceId::new(space as u8)
 }
 
@@ -61,17 +61,20 @@ pub(crate) fn next_place(words: &mut Words<'_>) -> Option<MapPlace>
     ensures found { IfSome result (λ at. IsPlace at × (words.old ≡ place_words at ++ words.new)) }
     ensures none { IfNone result ((at : MapPlace) (rest : List (List ℕ)) → IsPlace at → words.old ≢ place_words at ++ rest) }
 {
-    next_name(words, b"any")?;
-    Some(MapPlace::Any)
+    match words.next_word()? {
+        b"any" => Some(MapPlace::Any),
+        b"at" => Some(MapPlace::At(next_address(words)?)),
+        b"new" => Some(MapPlace::New(next_address(words)?)),
+        _ => None,
+    }
 }
 
 /// The permission that the next word spells.
 pub(crate) fn next_perm(words: &mut Words<'_>) -> Option<Perm>
-    ensures found { IfSome result (λ perm. IsPermission perm × (words.old ≡ permission perm ∷ words.new)) }
-    ensures none { IfNone result ((perm : Perm) (rest : List (List ℕ)) → IsPermission perm → words.old ≢ permission perm ∷ rest) }
+    ensures found { IfSome result (λ perm. words.old ≡ permission perm ∷ words.new) }
+    ensures none { IfNone result ((perm : Perm) (rest : List (List ℕ)) → words.old ≢ permission perm ∷ rest) }
 {
-    let perm = read_perm(words.next_word()?)?;
-    (perm.read && perm.write && !perm.exec).then_some(perm)
+    read_perm(words.next_word()?)
 }
 
 /// What a new page reads as, by the next words.
@@ -79,8 +82,26 @@ pub(crate) fn next_backing(words: &mut Words<'_>) -> Option<Backing>
     ensures found { IfSome result (λ what. IsBacking what × (words.old ≡ backing_words what ++ words.new)) }
     ensures none { IfNone result ((what : Backing) (rest : List (List ℕ)) → IsBacking what → words.old ≢ backing_words what ++ rest) }
 {
-    next_name(words, b"zero")?;
-    Some(Backing::Zero)
+    match words.next_word()? {
+        b"zero" => Some(Backing::Zero),
+        b"file" => Some(Backing::File {
+            file: next_within(words, 0, 15)? as u8,
+            index: next_number(words)?,
+        }),
+        _ => None,
+    }
+}
+
+/// Whether a page is touched for a write, by the next word.
+pub(crate) fn next_write(words: &mut Words<'_>) -> Option<bool>
+    ensures found { IfSome result (λ write. words.old ≡ access_word write ∷ words.new) }
+    ensures none { IfNone result ((write : Bool) (rest : List (List ℕ)) → words.old ≢ access_word write ∷ rest) }
+{
+    match words.next_word()? {
+        b"r" => Some(false),
+        b"w" => Some(true),
+        _ => None,
+    }
 }
 
 /// The number of bytes of an access, which the next word spells.
@@ -113,7 +134,7 @@ pub fn next_bytes(alloc: Global, words: &mut Words<'_>) -> Result<Option<ByteLis
         return Ok(None);
     }
     match read_hex(alloc, word)? {
-        Some(bytes) => Ok(Some(ByteList::of(alloc, &bytes)?)),
+        Some(bytes) => Ok(Some(ByteList::from_vec(bytes))),
         None => Ok(None),
     }
 }

@@ -1,15 +1,20 @@
-//! The lines of calls.
-ghost use Rattle.std.specs.Prelude.{◌≡◌, ◌≢◌, ℕ, ◌∷◌, ◌++◌, List, codes, IfOk, IfSome, IfNone, OnOk, OnErr};
+//! The lines of calls, read.
+ghost use Rattle.std.specs.Prelude.{◌≡◌, ◌≢◌, ℕ, ◌<◌, Bool, List, ◌∷◌, ◌++◌, length, codes, All, IfOk, IfSome, IfNone};
+ghost use Rattle.corten_base.specs.declared.permissions.Perm.{Perm};
+ghost use Rattle.corten_base.specs.declared.calls.MapPlace.{MapPlace};
+ghost use Rattle.corten_base.specs.declared.calls.Backing.{Backing};
 ghost use Rattle.corten_base.specs.declared.calls.Call.{Call};
-ghost use Rattle.mm_script.specs.CallLine.{call_words, call_line, IsCall};
+ghost use Rattle.text_words.specs.Spelling.{number, address, hex, permission};
+ghost use Rattle.mm_script.specs.CallLine.{place_words, backing_words, access_word, call_words, call_line, IsSpace, IsNumber, IsPlace, IsBacking, IsAccess, IsCall};
 
+use crate::call_names::{CallName, call_name};
 use crate::call_words::{
     next_access, next_address, next_backing, next_bytes, next_number, next_perm, next_place,
-    next_space,
+    next_space, next_write,
 };
-use corten_base::{Backing, Call, MapPlace, TextBytes};
+use corten_base::Call;
 use std::alloc::{AllocError, Global};
-use text_words::{Word, Words, push_words};
+use text_words::Words;
 
 /// Takes the words of a call from the front of those that are left.
 pub fn next_call(alloc: Global, words: &mut Words<'_>) -> Result<Option<Call>, AllocError>
@@ -17,19 +22,28 @@ pub fn next_call(alloc: Global, words: &mut Words<'_>) -> Result<Option<Call>, A
     ensures none { IfOk result (λ read. IfNone read ((call : Call) (rest : List (List ℕ)) →
         IsCall call → words.old ≢ call_words call ++ rest)) }
 {
-    match words.next_word() {
-        Some(b"map") => Ok(next_map(words)),
-        Some(b"load") => Ok(next_load(words)),
-        Some(b"store") => next_store(alloc, words),
-        _ => Ok(None),
+    let Some(word) = words.next_word() else {
+        return Ok(None);
+    };
+    let Some(name) = call_name(word) else {
+        return Ok(None);
+    };
+    match name {
+        CallName::Map => Ok(next_map(words)),
+        CallName::Unmap => Ok(next_unmap(words)),
+        CallName::Protect => Ok(next_protect(words)),
+        CallName::Load => Ok(next_load(words)),
+        CallName::Store => next_store(alloc, words),
+        CallName::Fault => Ok(next_fault(words)),
     }
 }
 
 /// Takes the words of a `map` behind that word.
 fn next_map(words: &mut Words<'_>) -> Option<Call>
     ensures found { IfSome result (λ call. IsCall call × (codes "map" ∷ words.old ≡ call_words call ++ words.new)) }
-    ensures none { IfNone result ((call : Call) (rest : List (List ℕ)) →
-        IsCall call → codes "map" ∷ words.old ≢ call_words call ++ rest) }
+    ensures none { IfNone result ((space len : ℕ) (at : MapPlace) (perm : Perm) (what : Backing) (rest : List (List ℕ)) →
+        IsSpace space → IsPlace at → IsNumber len → IsBacking what →
+        words.old ≢ number space ∷ (place_words at ++ (number len ∷ permission perm ∷ (backing_words what ++ rest)))) }
 {
     Some(Call::Map {
         space: next_space(words)?,
@@ -40,11 +54,39 @@ fn next_map(words: &mut Words<'_>) -> Option<Call>
     })
 }
 
+/// Takes the words of an `unmap` behind that word.
+fn next_unmap(words: &mut Words<'_>) -> Option<Call>
+    ensures found { IfSome result (λ call. IsCall call × (codes "unmap" ∷ words.old ≡ call_words call ++ words.new)) }
+    ensures none { IfNone result ((space at len : ℕ) (rest : List (List ℕ)) →
+        IsSpace space → IsNumber at → IsNumber len → words.old ≢ number space ∷ address at ∷ number len ∷ rest) }
+{
+    Some(Call::Unmap {
+        space: next_space(words)?,
+        at: next_address(words)?,
+        len: next_number(words)?,
+    })
+}
+
+/// Takes the words of a `protect` behind that word.
+fn next_protect(words: &mut Words<'_>) -> Option<Call>
+    ensures found { IfSome result (λ call. IsCall call × (codes "protect" ∷ words.old ≡ call_words call ++ words.new)) }
+    ensures none { IfNone result ((space at len : ℕ) (perm : Perm) (rest : List (List ℕ)) →
+        IsSpace space → IsNumber at → IsNumber len →
+        words.old ≢ number space ∷ address at ∷ number len ∷ permission perm ∷ rest) }
+{
+    Some(Call::Protect {
+        space: next_space(words)?,
+        at: next_address(words)?,
+        len: next_number(words)?,
+        perm: next_perm(words)?,
+    })
+}
+
 /// Takes the words of a `load` behind that word.
 fn next_load(words: &mut Words<'_>) -> Option<Call>
     ensures found { IfSome result (λ call. IsCall call × (codes "load" ∷ words.old ≡ call_words call ++ words.new)) }
-    ensures none { IfNone result ((call : Call) (rest : List (List ℕ)) →
-        IsCall call → codes "load" ∷ words.old ≢ call_words call ++ rest) }
+    ensures none { IfNone result ((space at len : ℕ) (rest : List (List ℕ)) →
+        IsSpace space → IsNumber at → IsAccess len → words.old ≢ number space ∷ address at ∷ number len ∷ rest) }
 {
     Some(Call::Load {
         space: next_space(words)?,
@@ -57,8 +99,9 @@ fn next_load(words: &mut Words<'_>) -> Option<Call>
 fn next_store(alloc: Global, words: &mut Words<'_>) -> Result<Option<Call>, AllocError>
     ensures found { IfOk result (λ read. IfSome read (λ call.
         IsCall call × (codes "store" ∷ words.old ≡ call_words call ++ words.new))) }
-    ensures none { IfOk result (λ read. IfNone read ((call : Call) (rest : List (List ℕ)) →
-        IsCall call → codes "store" ∷ words.old ≢ call_words call ++ rest)) }
+    ensures none { IfOk result (λ read. IfNone read ((space at : ℕ) (bytes : List ℕ) (rest : List (List ℕ)) →
+        IsSpace space → IsNumber at → IsAccess (length bytes) → All (λ b. b < 256) bytes →
+        words.old ≢ number space ∷ address at ∷ hex bytes ∷ rest)) }
 {
     let Some(space) = next_space(words) else {
         return Ok(None);
@@ -72,6 +115,19 @@ fn next_store(alloc: Global, words: &mut Words<'_>) -> Result<Option<Call>, Allo
     Ok(Some(Call::Store { space, at, bytes }))
 }
 
+/// Takes the words of a `fault` behind that word.
+fn next_fault(words: &mut Words<'_>) -> Option<Call>
+    ensures found { IfSome result (λ call. IsCall call × (codes "fault" ∷ words.old ≡ call_words call ++ words.new)) }
+    ensures none { IfNone result ((space at : ℕ) (write : Bool) (rest : List (List ℕ)) →
+        IsSpace space → IsNumber at → words.old ≢ number space ∷ address at ∷ access_word write ∷ rest) }
+{
+    Some(Call::Fault {
+        space: next_space(words)?,
+        at: next_address(words)?,
+        write: next_write(words)?,
+    })
+}
+
 /// The call whose line this is.
 pub fn read_call(alloc: Global, line: &[u8]) -> Result<Option<Call>, AllocError>
     ensures found { IfOk result (λ read. IfSome read (λ call. IsCall call × (line.now ≡ call_line call))) }
@@ -80,60 +136,4 @@ pub fn read_call(alloc: Global, line: &[u8]) -> Result<Option<Call>, AllocError>
     let mut words = Words::of(line);
     let call = next_call(alloc, &mut words)?;
     if words.is_done() { Ok(call) } else { Ok(None) }
-}
-
-/// Appends the line of a call, without a newline. Without memory nothing is appended.
-pub fn push_call(out: &mut Vec<u8>, call: &Call) -> Result<(), AllocError>
-    requires { IsCall call.now }
-    ensures ok { OnOk result (out.new.items ≡ out.old.items ++ call_line call.now) }
-    ensures err { OnErr result (out.new.items ≡ out.old.items) }
-{
-    match call {
-        Call::Map {
-            space,
-            place: MapPlace::Any,
-            len,
-            perm,
-            backing: Backing::Zero,
-        } => push_words(
-            out,
-            &[
-                Word::Plain(b"map"),
-                Word::Number(u64::from(space.number())),
-                Word::Plain(b"any"),
-                Word::Number(*len),
-                Word::Permission(*perm),
-                Word::Plain(b"zero"),
-            ],
-        ),
-        Call::Load { space, at, len } => push_words(
-            out,
-            &[
-                Word::Plain(b"load"),
-                Word::Number(u64::from(space.number())),
-                Word::Address(*at),
-                Word::Number(u64::from(*len)),
-            ],
-        ),
-        Call::Store { space, at, bytes } => push_words(
-            out,
-            &[
-                Word::Plain(b"store"),
-                Word::Number(u64::from(space.number())),
-                Word::Address(*at),
-                Word::Hex(bytes.bytes()),
-            ],
-        ),
-        _ => unreachable!(),
-    }
-}
-
-/// The line of a call, without a newline.
-pub fn print_call(alloc: Global, call: &Call) -> Result<TextBytes, AllocError>
-    requires { IsCall call.now }
-    ensures { IfOk result (λ text. text ≡ call_line call.now) }
-{
-    let mut out = Vec::new(alloc);
-    push_call(&mut out, call)?;
-    Ok(TextBytes::of(out))
 }

@@ -4,6 +4,7 @@ ghost use Rattle.mm_script.specs.declared.script.Script.{Script};
 ghost use Rattle.mm_script.specs.ScriptText.{IsScriptText, IsFirstFault, IfBad};
 
 use crate::fault::ScriptFault;
+use crate::files::read_files;
 use crate::header::read_limits;
 use crate::script::Script;
 use crate::threads::read_threads;
@@ -21,6 +22,11 @@ pub fn read_script(alloc: Global, bytes: &[u8]) -> Result<Script, ScriptFault>
 {
     let mut lines = Lines::of(bytes);
     let limits = read_limits(&mut lines)?;
+    let shelf = read_files(alloc, &mut lines)?;
     let threads = read_threads(alloc, &mut lines)?;
-    Ok(Script { limits, threads })
+    Ok(Script {
+        limits,
+        shelf,
+        threads,
+    })
 }

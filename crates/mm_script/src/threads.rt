@@ -1,57 +1,44 @@
 //! The lines of a script's threads.
-ghost use Rattle.std.specs.Prelude.{◌≡◌, ◌≢◌, [], ◌∷◌, ◌++◌, map, codes, All, IfOk, IfErr, OnOk};
-ghost use Rattle.std.specs.List.{flat_map};
+ghost use Rattle.std.specs.Prelude.{◌≡◌, [], ◌∷◌, ◌++◌, List, ℕ, codes, IfOk, IfErr, IsTrue, ◌↔◌};
 ghost use Rattle.corten_base.specs.declared.numbers.Limits.{Limits};
-ghost use Rattle.mm_script.specs.CallLine.{call_line, IsCall};
-ghost use Rattle.mm_script.specs.ScriptText.{AreLimits, AreThreads, limit_lines, thread_lines, IfBad};
-ghost use Rattle.mm_script.specs.Reading.{NextLine, NoLine, Passes, FaultFrom};
+ghost use Rattle.mm_script.specs.ScriptText.{AreLimits, AreFiles, AreThreads, header_lines, IfBad};
+ghost use Rattle.mm_script.specs.Reading.{Passes, FaultFrom, lines_behind};
 
 use crate::calls::read_call;
 use crate::fault::ScriptFault;
 use crate::kept::next_kept;
 use corten_base::{CallList, ThreadList};
 use std::alloc::Global;
+use std::mem;
 use text_words::Lines;
 
-/// The line with which a thread begins.
-const THREAD: &[u8] = b"thread";
+/// The most threads of a script.
+const MOST_THREADS: usize = 1;
 
-/// Takes the lines of the threads, which end where the text ends.
+/// Whether a thread begins with this line.
+pub(crate) fn is_thread(line: &[u8]) -> bool
+    ensures { IsTrue result ↔ (line.now ≡ codes "thread") }
+{
+    line == b"thread".as_slice()
+}
+
+/// Takes the lines behind the first thread's, which end where the text ends.
 pub(crate) fn read_threads(alloc: Global, lines: &mut Lines<'_>) -> Result<ThreadList, ScriptFault>
     ensures ok { IfOk result (λ threads.
-        AreThreads threads × Passes lines.old lines.new (flat_map thread_lines threads) × (lines.new.bytes ≡ [])) }
-    ensures bad { IfErr result (λ fault. IfBad fault (λ n. (limits : Limits) → AreLimits limits →
-        FaultFrom lines.old (limit_lines limits) n)) }
+        AreThreads threads × Passes lines.old lines.new (lines_behind threads) × (lines.new.bytes ≡ [])) }
+    ensures bad { IfErr result (λ fault. IfBad fault (λ n. (limits : Limits) (files : List (List ℕ)) →
+        AreLimits limits → AreFiles files → FaultFrom lines.old (header_lines limits files ++ codes "thread" ∷ []) n)) }
 {
-    next_thread(lines)?;
-    let calls = read_calls(alloc, lines)?;
-    Ok(ThreadList::of(vec![in alloc; calls]?))
-}
-
-/// Takes the line with which a thread begins.
-fn next_thread(lines: &mut Lines<'_>) -> Result<(), ScriptFault>
-    ensures ok { OnOk result (NextLine lines.old lines.new (codes "thread")) }
-    ensures bad { IfErr result (λ fault. IfBad fault (λ n. NoLine lines.old n (λ line. line ≢ codes "thread"))) }
-{
-    let Some(line) = next_kept(lines) else {
-        return Err(ScriptFault::Bad(lines.taken() + 1));
-    };
-    if line == THREAD {
-        Ok(())
-    } else {
-        Err(ScriptFault::Bad(lines.taken()))
-    }
-}
-
-/// Takes the lines of a thread's calls, which end where the text ends.
-fn read_calls(alloc: Global, lines: &mut Lines<'_>) -> Result<CallList, ScriptFault>
-    ensures ok { IfOk result (λ calls.
-        All IsCall calls × Passes lines.old lines.new (map call_line calls) × (lines.new.bytes ≡ [])) }
-    ensures bad { IfErr result (λ fault. IfBad fault (λ n. (limits : Limits) → AreLimits limits →
-        FaultFrom lines.old (limit_lines limits ++ codes "thread" ∷ []) n)) }
-{
+    let mut threads = Vec::new(alloc);
     let mut calls = Vec::new(alloc);
     while let Some(line) = next_kept(lines) {
+        if is_thread(line) {
+            if threads.len() + 1 == MOST_THREADS {
+                return Err(ScriptFault::Bad(lines.taken()));
+            }
+            threads.push(CallList::of(mem::replace(&mut calls, Vec::new(alloc))))?;
+            continue;
+        }
         let Some(call) = read_call(alloc, line)? else {
             return Err(ScriptFault::Bad(lines.taken()));
         };
@@ -60,5 +47,6 @@ fn read_calls(alloc: Global, lines: &mut Lines<'_>) -> Result<CallList, ScriptFa
     if !lines.is_done() {
         return Err(ScriptFault::Bad(lines.taken() + 1));
     }
-    Ok(CallList::of(calls))
+    threads.push(CallList::of(calls))?;
+    Ok(ThreadList::of(threads))
 }

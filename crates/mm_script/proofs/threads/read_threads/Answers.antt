@@ -1,54 +1,71 @@
-use Rattle.std.proofs.Common.{ℕ, List, [], ◌∷◌, map, codes, refl, sym, subst}
-use Rattle.std.specs.List.{All, flat_map}
-use Rattle.std.proofs.lemmas.Result.{err_from_is_err_and}
-use Rattle.std.proofs.lemmas.List.{append-nil}
-use Rattle.std.proofs.lemmas.List.Elements.{All-nil, All-cons}
+use Rattle.std.proofs.Common.{◌≡◌, ◌+◌, ℕ, List, [], ◌∷◌, ◌++◌, length, codes, refl, sym, subst, ◌∙◌, arith}
+use Rattle.std.specs.List.{All}
+use Rattle.std.proofs.lemmas.Bool.{false≢true}
+use Rattle.std.proofs.lemmas.List.Elements.{All-nil, All-push}
 use Rattle.corten_base.specs.declared.calls.Call.{Call}
 use Rattle.corten_base.specs.declared.numbers.Limits.{Limits}
 use Rattle.text_words.specs.Layout.{TextRest}
-use Rattle.mm_script.specs.CallLine.{call_line, IsCall}
-use Rattle.mm_script.specs.ScriptText.{AreLimits, AreThreads, limit_lines, thread_lines}
-use Rattle.mm_script.specs.Reading.{Passes, FaultFrom}
-use Rattle.mm_script.proofs.Beginnings.{Begins-limits, no_thread, wants_thread}
-use Rattle.mm_script.proofs.Places.{Passes-next, Passes-append, FaultFrom-behind, FaultFrom-next, IfBad-weaker}
+use Rattle.mm_script.specs.CallLine.{IsCall}
+use Rattle.mm_script.specs.ScriptText.{header_lines, most_threads, AreLimits, AreFiles}
+use Rattle.mm_script.specs.Reading.{FaultFrom}
+use Rattle.mm_script.proofs.Following.{no_call_thread}
+use Rattle.mm_script.proofs.Beginnings.{AreThreads-open}
+use Rattle.mm_script.proofs.ThreadLines.{at_none, no_rest_lines, more_calls, all_lines, line_fault, unfinished_fault}
 use Rattle.mm_script.proofs.threads.read_threads.Goals as goal
 
-abbrev FaultBehind : TextRest → ℕ → Type 0
-FaultBehind old n = (limits : Limits) → AreLimits limits → FaultFrom old (limit_lines limits) n
+abbrev Faulty : TextRest → ℕ → Type 0
+Faulty old n = (limits : Limits) (files : List (List ℕ)) → AreLimits limits → AreFiles files → FaultFrom old (header_lines limits files ++ codes "thread" ∷ []) n
 
-pub returns-in_err-next_thread-clause-bad : goal.returns-in_err-next_thread-clause-bad
-returns-in_err-next_thread-clause-bad c =
-    let p = err_from_is_err_and c.from_residual.result c.from_residual.ensures.1 in
-    let old : TextRest = c.args.lines.now in
-    rw (p.1, p.2) (IfBad-weaker c.in_err-next_thread.field-0.0 _ (FaultBehind old)
-    (λ n none limits are_limits. FaultFrom-next old (limit_lines limits) n _ none (Begins-limits limits are_limits) (no_thread limits) (wants_thread limits))
-    c.in_err-next_thread.ensures.bad)
+pub loop-line-init : goal.loop-line-init
+loop-line-init c = record {
+  passed = no_rest_lines c.args.lines.now c.new-threads.result.items c.new-calls.result.items c.new-threads.ensures.items c.new-calls.ensures.items;
+  are_threads = rw c.new-threads.ensures.items (All-nil (All IsCall));
+  are_calls = rw c.new-calls.ensures.items (All-nil IsCall);
+  few = rw c.new-threads.ensures.items (omega arith);
+}
 
-pub returns-in_err-calls-clause-bad : goal.returns-in_err-calls-clause-bad
-returns-in_err-calls-clause-bad c =
-    let p = err_from_is_err_and c.from_residual-in_err-calls.result c.from_residual-in_err-calls.ensures.1 in
-    let old : TextRest = c.args.lines.now in
-    let mid : TextRest = c.next_thread.new.lines in
-    rw (p.1, p.2) (IfBad-weaker c.in_err-calls.field-0.0 _ (FaultBehind old)
-    (λ n behind limits are_limits. FaultFrom-behind old mid (limit_lines limits) (codes "thread" ∷ []) n (Passes-next old mid (codes "thread") c.in_ok-next_thread.ensures.ok) (behind limits are_limits))
-    c.in_err-calls.ensures.bad)
+pub returns-then-len-eq-MOST_THREADS-clause-bad : goal.returns-then-len-eq-MOST_THREADS-clause-bad
+returns-then-len-eq-MOST_THREADS-clause-bad c =
+    let l = c.loop-line in
+    let line : List ℕ = c.in-Some.line.now in
+    let is : line ≡ codes "thread" = c.if-is_thread.ensures.0 refl in
+    let all : length l.threads.items + 1 ≡ most_threads = omega (arith, l.threads.ok, c.len.ensures, c.if-len-eq-MOST_THREADS.true) in
+    subst (Faulty c.args.lines.now) (sym c.taken.ensures.value) (λ limits files hl hf.
+    line_fault c.args.lines.now l.lines c.next_kept.new.lines limits files l.threads.items l.calls.items hl hf l.invariant.are_threads l.invariant.are_calls l.invariant.few l.invariant.passed line c.in-Some.ensures.line
+    (λ same. all) (λ call h same. no_call_thread call h (sym same ∙ is)))
 
-one_thread : (calls : List Call) → All IsCall calls → AreThreads (calls ∷ [])
-one_thread calls h = record { count = refl; calls = All-cons (All IsCall) calls [] h (All-nil (All IsCall)) }
+pub returns-in_default-2-clause-bad : goal.returns-in_default-2-clause-bad
+returns-in_default-2-clause-bad c =
+    let l = c.loop-line in
+    let none = at_none Call c.in_ok-call.field-0 _ c.in_default-2.not-Some c.in_ok-call.ensures.none in
+    subst (Faulty c.args.lines.now) (sym c.taken-in_default-2.ensures.value) (λ limits files hl hf.
+    line_fault c.args.lines.now l.lines c.next_kept.new.lines limits files l.threads.items l.calls.items hl hf l.invariant.are_threads l.invariant.are_calls l.invariant.few l.invariant.passed c.in-Some.line.now c.in-Some.ensures.line
+    (λ same. absurd (false≢true (c.if-is_thread.ensures.1 same))) none)
 
-passes_thread : (old mid new : TextRest) (calls : List Call) → Passes old mid (codes "thread" ∷ []) → Passes mid new (map call_line calls) → Passes old new (flat_map thread_lines (calls ∷ []))
-passes_thread old mid new calls first rest =
-    subst (Passes old new) (sym (append-nil (thread_lines calls))) (Passes-append old mid new (codes "thread" ∷ []) (map call_line calls) first rest)
+pub loop-line-preserved : goal.loop-line-preserved
+loop-line-preserved c =
+    let l = c.loop-line in
+    let found = rw c.in-Some-2.is at c.in_ok-call.ensures.found in
+    rw c.in_ok-push-2.ensures.items (record {
+      passed = more_calls c.args.lines.now l.lines c.next_kept.new.lines l.threads.items l.calls.items c.in-Some-2.call c.in-Some.line.now l.invariant.passed c.in-Some.ensures.line found.1;
+      are_threads = l.invariant.are_threads;
+      are_calls = All-push IsCall l.calls.items c.in-Some-2.call l.invariant.are_calls found.0;
+      few = l.invariant.few;
+    })
+
+pub returns-then-not-is_done-clause-bad : goal.returns-then-not-is_done-clause-bad
+returns-then-not-is_done-clause-bad c =
+    let l = c.loop-line in
+    let Next : ℕ → Type 0 = λ n. Faulty c.args.lines.now (n + 1) in
+    subst Next (sym c.taken-then-not-is_done.ensures.value) (λ limits files hl hf.
+    unfinished_fault c.args.lines.now l.lines c.next_kept.new.lines limits files l.threads.items l.calls.items hl hf l.invariant.are_threads l.invariant.are_calls l.invariant.few l.invariant.passed
+    c.in_default.ensures.none (λ e. false≢true (c.if-not-is_done.ensures.1 e)))
 
 pub returns-clause-ok : goal.returns-clause-ok
 returns-clause-ok c =
-    let old : TextRest = c.args.lines.now in
-    let mid : TextRest = c.next_thread.new.lines in
-    let new : TextRest = c.read_calls.new.lines in
-    let calls : List Call = c.in_ok-calls.calls in
-    let read = c.in_ok-calls.ensures.ok in
-    rw (c.of.ensures, c.in_ok-vec.ensures.items) (
-      one_thread calls read.0,
-      passes_thread old mid new calls (Passes-next old mid (codes "thread") c.in_ok-next_thread.ensures.ok) read.1,
-      read.2,
+    let l = c.loop-line in
+    rw (c.of-3.ensures, c.in_ok-push-3.ensures.items, c.of-2.ensures) (
+      AreThreads-open l.threads.items l.calls.items l.invariant.are_threads l.invariant.are_calls l.invariant.few,
+      all_lines c.args.lines.now l.lines c.next_kept.new.lines l.threads.items l.calls.items l.invariant.passed c.in_default.ensures.none,
+      c.if-not-is_done.ensures.0 refl,
     )

@@ -1,0 +1,14 @@
+use Rattle.std.proofs.Common.{length}
+use Rattle.mm_script.specs.ScriptText.{file_lines, AreFiles}
+use Rattle.mm_script.specs.Reading.{Passes}
+use Rattle.mm_script.proofs.files.read_files.Given as goal
+
+-- the lines so far are those of the files
+abbrev pub invariant-loop-line : goal.invariant-loop-line
+invariant-loop-line l = record {
+  passed : Passes l.fn.lines l.lines (file_lines l.shelf);
+  are_files : AreFiles l.shelf;
+}
+
+abbrev pub decreases-loop-line : goal.decreases-loop-line
+decreases-loop-line l = length l.lines.bytes

@@ -1,0 +1,13 @@
+-- The first words of calls.
+--     name_word      the word of a name
+use Rattle.std.specs.Prelude.{ℕ, List, codes}
+use Rattle.mm_script.specs.declared.call_names.CallName.{CallName}
+use Rattle.mm_script.specs.declared.call_names.CallName.TheVariants.{Map, Unmap, Protect, Load, Store, Fault}
+
+abbrev pub name_word : CallName → List ℕ
+name_word Map = codes "map"
+name_word Unmap = codes "unmap"
+name_word Protect = codes "protect"
+name_word Load = codes "load"
+name_word Store = codes "store"
+name_word Fault = codes "fault"
