@@ -65,6 +65,26 @@ pub no_fault : (words : List (List ℕ))
 no_fault words none (call.Fault space at write) rest h are = none space at write rest h.0 h.1 (cc)
 no_fault words none _ rest h are = other_word (codes "fault") _ _ _ refl are
 
+pub no_fork : (words : List (List ℕ)) → ((space : ℕ) (rest : List (List ℕ)) → IsSpace space → words ≢ number space ∷ rest) → (c : Call) (rest : List (List ℕ)) → IsCall c → codes "fork" ∷ words ≢ call_words c ++ rest
+no_fork words none (call.Fork space) rest h are = none space rest h (cc)
+no_fork words none _ rest h are = other_word (codes "fork") _ _ _ refl are
+
+pub no_exit : (words : List (List ℕ)) → ((space : ℕ) (rest : List (List ℕ)) → IsSpace space → words ≢ number space ∷ rest) → (c : Call) (rest : List (List ℕ)) → IsCall c → codes "exit" ∷ words ≢ call_words c ++ rest
+no_exit words none (call.Exit space) rest h are = none space rest h (cc)
+no_exit words none _ rest h are = other_word (codes "exit") _ _ _ refl are
+
+pub no_out : (words : List (List ℕ))
+    → ((space at len : ℕ) (rest : List (List ℕ)) → IsSpace space → IsNumber at → IsNumber len → words ≢ number space ∷ address at ∷ number len ∷ rest)
+    → (c : Call) (rest : List (List ℕ)) → IsCall c → codes "out" ∷ words ≢ call_words c ++ rest
+no_out words none (call.SwapOut space at len) rest h are = none space at len rest h.0 h.1 h.2 (cc)
+no_out words none _ rest h are = other_word (codes "out") _ _ _ refl are
+
+pub no_in : (words : List (List ℕ))
+    → ((space at len : ℕ) (rest : List (List ℕ)) → IsSpace space → IsNumber at → IsNumber len → words ≢ number space ∷ address at ∷ number len ∷ rest)
+    → (c : Call) (rest : List (List ℕ)) → IsCall c → codes "in" ∷ words ≢ call_words c ++ rest
+no_in words none (call.SwapIn space at len) rest h are = none space at len rest h.0 h.1 h.2 (cc)
+no_in words none _ rest h are = other_word (codes "in") _ _ _ refl are
+
 -- a call has words
 pub no_words : (c : Call) (rest : List (List ℕ)) → [] ≢ call_words c ++ rest
 no_words (call.Map space at len perm what) rest are = cc
@@ -88,4 +108,9 @@ no_name word words none (call.Protect space at len perm) rest h are = none name.
 no_name word words none (call.Load space at len) rest h are = none name.Load (cc)
 no_name word words none (call.Store space at bytes) rest h are = none name.Store (cc)
 no_name word words none (call.Fault space at write) rest h are = none name.Fault (cc)
+no_name word words none call.Spawn rest h are = none name.Spawn (cc)
+no_name word words none (call.Fork space) rest h are = none name.Fork (cc)
+no_name word words none (call.Exit space) rest h are = none name.Exit (cc)
+no_name word words none (call.SwapOut space at len) rest h are = none name.SwapOut (cc)
+no_name word words none (call.SwapIn space at len) rest h are = none name.SwapIn (cc)
 no_name word words none _ rest h are = h

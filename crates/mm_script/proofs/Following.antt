@@ -41,6 +41,11 @@ thread_is_no_name name.Protect same = other_word (codes "thread") (codes "protec
 thread_is_no_name name.Load same = other_word (codes "thread") (codes "load") [] [] refl (ap (λ w. w ∷ []) same)
 thread_is_no_name name.Store same = other_word (codes "thread") (codes "store") [] [] refl (ap (λ w. w ∷ []) same)
 thread_is_no_name name.Fault same = other_word (codes "thread") (codes "fault") [] [] refl (ap (λ w. w ∷ []) same)
+thread_is_no_name name.Spawn same = other_word (codes "thread") (codes "spawn") [] [] refl (ap (λ w. w ∷ []) same)
+thread_is_no_name name.Fork same = other_word (codes "thread") (codes "fork") [] [] refl (ap (λ w. w ∷ []) same)
+thread_is_no_name name.Exit same = other_word (codes "thread") (codes "exit") [] [] refl (ap (λ w. w ∷ []) same)
+thread_is_no_name name.SwapOut same = other_word (codes "thread") (codes "out") [] [] refl (ap (λ w. w ∷ []) same)
+thread_is_no_name name.SwapIn same = other_word (codes "thread") (codes "in") [] [] refl (ap (λ w. w ∷ []) same)
 
 pub no_call_thread : (c : Call) → IsCall c → call_line c ≢ codes "thread"
 no_call_thread c h same =

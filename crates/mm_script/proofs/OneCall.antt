@@ -125,6 +125,38 @@ one_fault space at write (call.Fault space' at' write') x y ha hb same =
     record { calls = λ i. call.Fault (spaces i) (places i) (accesses i); rest = cc }
 one_fault space at write _ x y ha hb same = absurd (other_word (codes "fault") _ _ _ refl same)
 
+one_spawn : (b : Call) (x y : List (List ℕ)) → IsCall b → call_words call.Spawn ++ x ≡ call_words b ++ y → SameCall call.Spawn b x y
+one_spawn call.Spawn x y hb same = record { calls = refl; rest = cc }
+one_spawn _ x y hb same = absurd (other_word (codes "spawn") _ _ _ refl same)
+
+one_fork : (space : ℕ) (b : Call) (x y : List (List ℕ)) → IsCall (call.Fork space) → IsCall b → call_words (call.Fork space) ++ x ≡ call_words b ++ y → SameCall (call.Fork space) b x y
+one_fork space (call.Fork space') x y ha hb same =
+    let spaces : space ≡ space' = same_space space space' ha hb (cc) in
+    record { calls = ap call.Fork spaces; rest = cc }
+one_fork space _ x y ha hb same = absurd (other_word (codes "fork") _ _ _ refl same)
+
+one_exit : (space : ℕ) (b : Call) (x y : List (List ℕ)) → IsCall (call.Exit space) → IsCall b → call_words (call.Exit space) ++ x ≡ call_words b ++ y → SameCall (call.Exit space) b x y
+one_exit space (call.Exit space') x y ha hb same =
+    let spaces : space ≡ space' = same_space space space' ha hb (cc) in
+    record { calls = ap call.Exit spaces; rest = cc }
+one_exit space _ x y ha hb same = absurd (other_word (codes "exit") _ _ _ refl same)
+
+one_out : (space at len : ℕ) (b : Call) (x y : List (List ℕ)) → IsCall (call.SwapOut space at len) → IsCall b → call_words (call.SwapOut space at len) ++ x ≡ call_words b ++ y → SameCall (call.SwapOut space at len) b x y
+one_out space at len (call.SwapOut space' at' len') x y ha hb same =
+    let spaces : space ≡ space' = same_space space space' ha.0 hb.0 (cc) in
+    let places : at ≡ at' = address_injective at at' ha.1 hb.1 (cc) in
+    let lengths : len ≡ len' = number_injective len len' ha.2 hb.2 (cc) in
+    record { calls = λ i. call.SwapOut (spaces i) (places i) (lengths i); rest = cc }
+one_out space at len _ x y ha hb same = absurd (other_word (codes "out") _ _ _ refl same)
+
+one_in : (space at len : ℕ) (b : Call) (x y : List (List ℕ)) → IsCall (call.SwapIn space at len) → IsCall b → call_words (call.SwapIn space at len) ++ x ≡ call_words b ++ y → SameCall (call.SwapIn space at len) b x y
+one_in space at len (call.SwapIn space' at' len') x y ha hb same =
+    let spaces : space ≡ space' = same_space space space' ha.0 hb.0 (cc) in
+    let places : at ≡ at' = address_injective at at' ha.1 hb.1 (cc) in
+    let lengths : len ≡ len' = number_injective len len' ha.2 hb.2 (cc) in
+    record { calls = λ i. call.SwapIn (spaces i) (places i) (lengths i); rest = cc }
+one_in space at len _ x y ha hb same = absurd (other_word (codes "in") _ _ _ refl same)
+
 -- words begin with the words of one call at most
 pub one_call : (a b : Call) (x y : List (List ℕ)) → IsCall a → IsCall b → call_words a ++ x ≡ call_words b ++ y → SameCall a b x y
 one_call (call.Map space at len perm what) b x y ha hb same = one_map space len at perm what b x y ha hb same
@@ -133,6 +165,11 @@ one_call (call.Protect space at len perm) b x y ha hb same = one_protect space a
 one_call (call.Load space at len) b x y ha hb same = one_load space at len b x y ha hb same
 one_call (call.Store space at bytes) b x y ha hb same = one_store space at bytes b x y ha hb same
 one_call (call.Fault space at write) b x y ha hb same = one_fault space at write b x y ha hb same
+one_call call.Spawn b x y ha hb same = one_spawn b x y hb same
+one_call (call.Fork space) b x y ha hb same = one_fork space b x y ha hb same
+one_call (call.Exit space) b x y ha hb same = one_exit space b x y ha hb same
+one_call (call.SwapOut space at len) b x y ha hb same = one_out space at len b x y ha hb same
+one_call (call.SwapIn space at len) b x y ha hb same = one_in space at len b x y ha hb same
 one_call _ b x y ha hb same = absurd ha
 
 -- a byte below the letters does not occur in a word of letters
@@ -202,6 +239,11 @@ module _ (byte : ℕ) (low : byte < 45) where
   words_have_no (call.Fault space at write) h =
       one _ _ (HasNo_letters byte (codes "fault") low refl) (one _ _ (space_word_has_no byte space low h.0) (one _ _ (address_word_has_no byte at low h.1)
       (one _ _ (access_word_has_no byte write low) none)))
+  words_have_no call.Spawn h = one _ _ (HasNo_letters byte (codes "spawn") low refl) none
+  words_have_no (call.Fork space) h = one _ _ (HasNo_letters byte (codes "fork") low refl) (one _ _ (space_word_has_no byte space low h) none)
+  words_have_no (call.Exit space) h = one _ _ (HasNo_letters byte (codes "exit") low refl) (one _ _ (space_word_has_no byte space low h) none)
+  words_have_no (call.SwapOut space at len) h = range_words_have_no (codes "out") space at len [] (HasNo_letters byte (codes "out") low refl) h.0 h.1 h.2 none
+  words_have_no (call.SwapIn space at len) h = range_words_have_no (codes "in") space at len [] (HasNo_letters byte (codes "in") low refl) h.0 h.1 h.2 none
   words_have_no _ h = absurd h
 
 pub call_words_have_no : (byte : ℕ) (c : Call) → byte < 45 → IsCall c → All (HasNo byte) (call_words c)

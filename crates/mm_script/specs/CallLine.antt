@@ -84,7 +84,7 @@ IsBacking (backing.File file index) = IsWithin 0 15 file × IsNumber index
 abbrev pub IsAccess : ℕ → Type 0
 IsAccess bytes = IsWithin 1 4096 bytes
 
--- the calls on one space so far
+-- all calls but transactions so far
 abbrev pub IsCall : Call → Type 0
 IsCall (call.Map space at len perm what) = IsSpace space × IsPlace at × IsNumber len × IsBacking what
 IsCall (call.Unmap space at len) = IsSpace space × IsNumber at × IsNumber len
@@ -92,4 +92,9 @@ IsCall (call.Protect space at len perm) = IsSpace space × IsNumber at × IsNumb
 IsCall (call.Load space at len) = IsSpace space × IsNumber at × IsAccess len
 IsCall (call.Store space at bytes) = IsSpace space × IsNumber at × IsAccess (length bytes) × All (λ b. b < 256) bytes
 IsCall (call.Fault space at write) = IsSpace space × IsNumber at
+IsCall call.Spawn = ⊤
+IsCall (call.Fork space) = IsSpace space
+IsCall (call.Exit space) = IsSpace space
+IsCall (call.SwapOut space at len) = IsSpace space × IsNumber at × IsNumber len
+IsCall (call.SwapIn space at len) = IsSpace space × IsNumber at × IsNumber len
 IsCall _ = ⊥

@@ -2,7 +2,7 @@
 --     name_word      the word of a name
 use Rattle.std.specs.Prelude.{ℕ, List, codes}
 use Rattle.mm_script.specs.declared.call_names.CallName.{CallName}
-use Rattle.mm_script.specs.declared.call_names.CallName.TheVariants.{Map, Unmap, Protect, Load, Store, Fault}
+use Rattle.mm_script.specs.declared.call_names.CallName.TheVariants.{Map, Unmap, Protect, Load, Store, Fault, Spawn, Fork, Exit, SwapOut, SwapIn}
 
 abbrev pub name_word : CallName → List ℕ
 name_word Map = codes "map"
@@ -11,3 +11,8 @@ name_word Protect = codes "protect"
 name_word Load = codes "load"
 name_word Store = codes "store"
 name_word Fault = codes "fault"
+name_word Spawn = codes "spawn"
+name_word Fork = codes "fork"
+name_word Exit = codes "exit"
+name_word SwapOut = codes "out"
+name_word SwapIn = codes "in"

@@ -69,9 +69,8 @@ pub record AreFiles (files : List (List ℕ)) : Type 0 where
   pub count : length files ≤ 16
   pub each : All IsFile files
 
--- one thread alone so far
 abbrev pub most_threads : ℕ
-most_threads = 1
+most_threads = 8
 
 pub record AreThreads (threads : List (List Call)) : Type 0 where
   pub count : IsWithin 1 most_threads (length threads)

@@ -12,6 +12,11 @@ pub(crate) enum CallName {
     Load,
     Store,
     Fault,
+    Spawn,
+    Fork,
+    Exit,
+    SwapOut,
+    SwapIn,
 }
 
 /// Which call's first word this is.
@@ -31,6 +36,16 @@ pub(crate) fn call_name(word: &[u8]) -> Option<CallName>
         Some(CallName::Store)
     } else if word == b"fault".as_slice() {
         Some(CallName::Fault)
+    } else if word == b"spawn".as_slice() {
+        Some(CallName::Spawn)
+    } else if word == b"fork".as_slice() {
+        Some(CallName::Fork)
+    } else if word == b"exit".as_slice() {
+        Some(CallName::Exit)
+    } else if word == b"out".as_slice() {
+        Some(CallName::SwapOut)
+    } else if word == b"in".as_slice() {
+        Some(CallName::SwapIn)
     } else {
         None
     }

@@ -35,6 +35,11 @@ pub fn next_call(alloc: Global, words: &mut Words<'_>) -> Result<Option<Call>, A
         CallName::Load => Ok(next_load(words)),
         CallName::Store => next_store(alloc, words),
         CallName::Fault => Ok(next_fault(words)),
+        CallName::Spawn => Ok(Some(Call::Spawn)),
+        CallName::Fork => Ok(next_fork(words)),
+        CallName::Exit => Ok(next_exit(words)),
+        CallName::SwapOut => Ok(next_out(words)),
+        CallName::SwapIn => Ok(next_in(words)),
     }
 }
 
@@ -125,6 +130,52 @@ fn next_fault(words: &mut Words<'_>) -> Option<Call>
         space: next_space(words)?,
         at: next_address(words)?,
         write: next_write(words)?,
+    })
+}
+
+/// Takes the words of a `fork` behind that word.
+fn next_fork(words: &mut Words<'_>) -> Option<Call>
+    ensures found { IfSome result (λ call. IsCall call × (codes "fork" ∷ words.old ≡ call_words call ++ words.new)) }
+    ensures none { IfNone result ((space : ℕ) (rest : List (List ℕ)) → IsSpace space → words.old ≢ number space ∷ rest) }
+{
+    Some(Call::Fork {
+        space: next_space(words)?,
+    })
+}
+
+/// Takes the words of an `exit` behind that word.
+fn next_exit(words: &mut Words<'_>) -> Option<Call>
+    ensures found { IfSome result (λ call. IsCall call × (codes "exit" ∷ words.old ≡ call_words call ++ words.new)) }
+    ensures none { IfNone result ((space : ℕ) (rest : List (List ℕ)) → IsSpace space → words.old ≢ number space ∷ rest) }
+{
+    Some(Call::Exit {
+        space: next_space(words)?,
+    })
+}
+
+/// Takes the words of an `out` behind that word.
+fn next_out(words: &mut Words<'_>) -> Option<Call>
+    ensures found { IfSome result (λ call. IsCall call × (codes "out" ∷ words.old ≡ call_words call ++ words.new)) }
+    ensures none { IfNone result ((space at len : ℕ) (rest : List (List ℕ)) →
+        IsSpace space → IsNumber at → IsNumber len → words.old ≢ number space ∷ address at ∷ number len ∷ rest) }
+{
+    Some(Call::SwapOut {
+        space: next_space(words)?,
+        at: next_address(words)?,
+        len: next_number(words)?,
+    })
+}
+
+/// Takes the words of an `in` behind that word.
+fn next_in(words: &mut Words<'_>) -> Option<Call>
+    ensures found { IfSome result (λ call. IsCall call × (codes "in" ∷ words.old ≡ call_words call ++ words.new)) }
+    ensures none { IfNone result ((space at len : ℕ) (rest : List (List ℕ)) →
+        IsSpace space → IsNumber at → IsNumber len → words.old ≢ number space ∷ address at ∷ number len ∷ rest) }
+{
+    Some(Call::SwapIn {
+        space: next_space(words)?,
+        at: next_address(words)?,
+        len: next_number(words)?,
     })
 }
 

@@ -1,7 +1,8 @@
 //! Scripts: the calls of threads, read from a text, and call lines read and printed.
 //!
 //! A script is lines, each ended by a newline. A line that is empty or begins with `#` is skipped, and counts as a line.
-//! The others are `frames N`, `tables N` and `swap N`, a line for each file, then `thread`, and behind it a line for each call.
+//! The others are `frames N`, `tables N` and `swap N`, a line for each file, and for each thread `thread`, and behind it
+//! a line for each of its calls.
 #![tactic(auto)]
 
 mod call_names;

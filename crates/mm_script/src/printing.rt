@@ -68,6 +68,17 @@ fn push_map(
     push_backing(out, backing)
 }
 
+/// Appends a call's name and a space. Without memory nothing is appended.
+fn push_space(out: &mut Vec<u8>, name: &[u8], space: SpaceId) -> Result<(), AllocError>
+    ensures ok { OnOk result (out.new.items ≡ out.old.items ++ joined (name.now ∷ number space ∷ [])) }
+    ensures err { OnErr result (out.new.items ≡ out.old.items) }
+{
+    push_words(
+        out,
+        &[Word::Plain(name), Word::Number(u64::from(space.number()))],
+    )
+}
+
 /// Appends a call's name, a space, an address and a number. Without memory nothing is appended.
 fn push_range(
     out: &mut Vec<u8>,
@@ -158,7 +169,12 @@ fn push_parts(out: &mut Vec<u8>, call: &Call) -> Result<(), AllocError>
             let access = if *write { b"w" } else { b"r" };
             push_touch(out, b"fault", *space, *at, Word::Plain(access))
         }
-        _ => unreachable!(),
+        Call::Spawn => push_words(out, &[Word::Plain(b"spawn")]),
+        Call::Fork { space } => push_space(out, b"fork", *space),
+        Call::Exit { space } => push_space(out, b"exit", *space),
+        Call::SwapOut { space, at, len } => push_range(out, b"out", *space, *at, *len),
+        Call::SwapIn { space, at, len } => push_range(out, b"in", *space, *at, *len),
+        Call::Txn { .. } => unreachable!(),
     }
 }
 

@@ -47,6 +47,11 @@ fn call_lines_are_read_and_printed(rt: HostRuntime) -> Result<(), Fail> {
         b"store 0 0x0 00ff".as_slice(),
         b"fault 0 0x10000 r".as_slice(),
         b"fault 62 0x10fff w".as_slice(),
+        b"spawn".as_slice(),
+        b"fork 0".as_slice(),
+        b"exit 63".as_slice(),
+        b"out 0 0x8000000000 4096".as_slice(),
+        b"in 1 0x8000000000 8192".as_slice(),
     ] {
         let call = read_call(rt.alloc(), line)?.ok_or("this is a call's line")?;
         let text = print_call(rt.alloc(), &call)?;
@@ -113,6 +118,22 @@ fn a_script_has_at_most_16_files(rt: HostRuntime) -> Result<(), Fail> {
     Ok(())
 }
 
+#[test]
+fn threads_have_their_calls(rt: HostRuntime) -> Result<(), Fail> {
+    let mut text = Vec::from_slice(rt.alloc(), b"frames 2\ntables 8\nswap 1\n")?;
+    for _ in 0..8 {
+        text.extend_from_slice(b"thread\nspawn\nfork 0\n")?;
+    }
+    let script = read_script(rt.alloc(), &text)?;
+    assert_eq!(rt; script.threads.list().len(), 8);
+    for thread in script.threads.list() {
+        assert_eq!(rt; thread.list().len(), 2);
+    }
+    text.extend_from_slice(b"thread\n")?;
+    assert_eq!(rt; bad(&rt, &text), 28);
+    Ok(())
+}
+
 /// The number behind `bad`, or 0.
 fn bad(rt: &HostRuntime, bytes: &[u8]) -> u64 {
     match read_script(rt.alloc(), bytes) {
@@ -130,10 +151,6 @@ fn faulty_lines(rt: HostRuntime) {
     assert_eq!(rt; bad(&rt, b"frames 2\n# a remark\n\ntables 1024\n"), 4);
     assert_eq!(rt;
         bad(&rt, b"frames 2\ntables 8\nswap 1\nthread\nload 0 0x1 1"),
-        5
-    );
-    assert_eq!(rt;
-        bad(&rt, b"frames 2\ntables 8\nswap 1\nthread\nthread\n"),
         5
     );
     assert_eq!(rt;
@@ -176,6 +193,11 @@ fn spellings_of_no_call(rt: HostRuntime) -> Result<(), Fail> {
         b"protect 0 0x0 1 rw".as_slice(),
         b"fault 0 0x0 x".as_slice(),
         b"fault 0 0x0 rw".as_slice(),
+        b"fork".as_slice(),
+        b"fork 64".as_slice(),
+        b"exit 0 0".as_slice(),
+        b"out 0 0x0".as_slice(),
+        b"in 0 0 1".as_slice(),
         b"txn 0 0x10000 4096".as_slice(),
     ] {
         assert!(rt; read_call(rt.alloc(), line)?.is_none());

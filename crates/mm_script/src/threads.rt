@@ -13,7 +13,7 @@ use std::mem;
 use text_words::Lines;
 
 /// The most threads of a script.
-const MOST_THREADS: usize = 1;
+const MOST_THREADS: usize = 8;
 
 /// Whether a thread begins with this line.
 pub(crate) fn is_thread(line: &[u8]) -> bool

@@ -1,6 +1,7 @@
-use Rattle.std.proofs.Common.{◌≡◌, ◌+◌, ℕ, List, [], ◌∷◌, ◌++◌, length, codes, refl, sym, subst, ◌∙◌, arith}
+use Rattle.std.proofs.Common.{◌≡◌, ◌+◌, ℕ, List, [], ◌∷◌, ◌++◌, length, codes, refl, sym, subst, ◌∙◌, arith, ap, Vec, Global, ◌≢◌, ◌<◌}
 use Rattle.std.specs.List.{All}
 use Rattle.std.proofs.lemmas.Bool.{false≢true}
+use Rattle.std.proofs.lemmas.List.{length-append}
 use Rattle.std.proofs.lemmas.List.Elements.{All-nil, All-push}
 use Rattle.corten_base.specs.declared.calls.Call.{Call}
 use Rattle.corten_base.specs.declared.numbers.Limits.{Limits}
@@ -10,11 +11,14 @@ use Rattle.mm_script.specs.ScriptText.{header_lines, most_threads, AreLimits, Ar
 use Rattle.mm_script.specs.Reading.{FaultFrom}
 use Rattle.mm_script.proofs.Following.{no_call_thread}
 use Rattle.mm_script.proofs.Beginnings.{AreThreads-open}
-use Rattle.mm_script.proofs.ThreadLines.{at_none, no_rest_lines, more_calls, all_lines, line_fault, unfinished_fault}
+use Rattle.mm_script.proofs.ThreadLines.{at_none, no_rest_lines, more_calls, all_lines, line_fault, unfinished_fault, more_threads}
 use Rattle.mm_script.proofs.threads.read_threads.Goals as goal
 
 abbrev Faulty : TextRest → ℕ → Type 0
 Faulty old n = (limits : Limits) (files : List (List ℕ)) → AreLimits limits → AreFiles files → FaultFrom old (header_lines limits files ++ codes "thread" ∷ []) n
+
+one_more : (n m : ℕ) → m ≡ n + 1 → n < most_threads → n + 1 ≢ most_threads → m < most_threads
+one_more n m is few other = omega arith
 
 pub loop-line-init : goal.loop-line-init
 loop-line-init c = record {
@@ -51,6 +55,24 @@ loop-line-preserved c =
       are_threads = l.invariant.are_threads;
       are_calls = All-push IsCall l.calls.items c.in-Some-2.call l.invariant.are_calls found.0;
       few = l.invariant.few;
+    })
+
+abbrev items : Vec Call Global → List Call
+items v = v.items
+
+pub loop-line-preserved-then-is_thread : goal.loop-line-preserved-then-is_thread
+loop-line-preserved-then-is_thread c =
+    let l = c.loop-line in
+    let is : c.in-Some.line.now ≡ codes "thread" = c.if-is_thread.ensures.0 refl in
+    let last : c.of.result ≡ l.calls.items = c.of.ensures ∙ ap items c.replace.ensures.value in
+    let threads_are : c.push.new.self.items ≡ l.threads.items ++ l.calls.items ∷ [] = c.in_ok-push.ensures.items ∙ ap (λ cs. l.threads.items ++ cs ∷ []) last in
+    let calls_are : c.replace.new.dest.items ≡ [] = ap items c.replace.ensures.after ∙ c.new.ensures.items in
+    let not_all : length l.threads.items + 1 ≢ most_threads = λ all. c.if-len-eq-MOST_THREADS.false (let same : c.len.result + 1 ≡ 8 = omega (arith, l.threads.ok, c.len.ensures, all) in same) in
+    rw (threads_are, calls_are) (record {
+      passed = more_threads c.args.lines.now l.lines c.next_kept.new.lines l.threads.items l.calls.items c.in-Some.line.now l.invariant.passed c.in-Some.ensures.line is;
+      are_threads = All-push (All IsCall) l.threads.items l.calls.items l.invariant.are_threads l.invariant.are_calls;
+      are_calls = All-nil IsCall;
+      few = one_more (length l.threads.items) (length (l.threads.items ++ l.calls.items ∷ [])) (length-append l.threads.items (l.calls.items ∷ [])) l.invariant.few not_all;
     })
 
 pub returns-then-not-is_done-clause-bad : goal.returns-then-not-is_done-clause-bad
