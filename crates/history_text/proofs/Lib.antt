@@ -1,3 +1,4 @@
+pub mod Amounts
 pub mod Beginnings
 pub mod Bodies
 pub mod ByteCells

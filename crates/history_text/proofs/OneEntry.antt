@@ -1,18 +1,20 @@
 -- A line is that of one entry at most, and its words are the entry's.
-use Rattle.std.proofs.Common.{◌≡◌, ◌≢◌, ℕ, ◌<◌, List, [], ◌∷◌, ◌++◌, codes, sym, ap, ◌∙◌, arith}
+use Rattle.std.proofs.Common.{◌≡◌, ◌≢◌, ℕ, ◌<◌, List, [], ◌∷◌, ◌++◌, codes, refl, sym, ap, ◌∙◌, arith}
 use Rattle.std.specs.Prelude.{Option, Some, None, IfSome, IfNone}
 use Rattle.std.specs.List.{All}
 use Rattle.std.proofs.lemmas.List.{append-nil, append_assoc}
 use Rattle.std.proofs.lemmas.List.Elements.{All-nil, All-cons, All-append}
+use Rattle.corten_base.specs.declared.calls.Call.{Call}
 use Rattle.corten_base.specs.declared.calls.Entry.{Entry}
+use Rattle.corten_base.specs.declared.calls.Reply.{Reply}
 use Rattle.text_words.specs.Layout.{HasNo, IsLine, joined, words_of}
 use Rattle.text_words.specs.Spelling.{number}
 use Rattle.text_words.proofs.OneValue.{number_injective}
 use Rattle.text_words.proofs.SpelledBytes.{IsNoDigit-below, HasNo-number, HasNo-joined}
 use Rattle.text_words.proofs.WordLists.{joined-words_of, words_of-joined}
-use Rattle.mm_script.specs.CallLine.{call_words}
+use Rattle.mm_script.specs.CallLine.{call_words, IsCall}
 use Rattle.mm_script.proofs.OneCall.{one_call, call_words_have_no}
-use Rattle.history_text.specs.Replies.{reply_words}
+use Rattle.history_text.specs.Replies.{reply_words, IsReply}
 use Rattle.history_text.specs.HistoryText.{entry_words, entry_line, IsEntry}
 use Rattle.history_text.proofs.OneReply.{one_reply, reply_words_have_no}
 
@@ -43,6 +45,21 @@ one_entry a b x y ha hb same =
     let calls = one_call a.call b.call (codes "=" ∷ (reply_words a.reply ++ x)) (codes "=" ∷ (reply_words b.reply ++ y)) ha.call hb.call (same_behind _ _ from_call from_call' whole) in
     let replies = one_reply a.reply b.reply x y ha.reply hb.reply (same_behind _ _ (reply_words a.reply ++ x) (reply_words b.reply ++ y) calls.rest) in
     record { entries = entry_from_parts a b threads calls.calls replies.replies; rest = replies.rest }
+
+-- where no reply stands behind `=`, no entry does
+pub no_entry_behind : (thread : ℕ) (c : Call) (words left : List (List ℕ)) → IsCall c → words ≡ number thread ∷ (call_words c ++ codes "=" ∷ left)
+    → ((r : Reply) (rest : List (List ℕ)) → IsReply r → left ≢ reply_words r ++ rest) → (e : Entry) (rest : List (List ℕ)) → IsEntry e → words ≢ entry_words e ++ rest
+no_entry_behind thread c words left hc are none e rest he is =
+    let from_call : List (List ℕ) = call_words c ++ codes "=" ∷ left in
+    let from_call' : List (List ℕ) = call_words e.call ++ codes "=" ∷ (reply_words e.reply ++ rest) in
+    let whole : number thread ∷ from_call ≡ number e.thread ∷ from_call' = sym are ∙ is ∙ entry_words-append e rest in
+    let calls = one_call c e.call (codes "=" ∷ left) (codes "=" ∷ (reply_words e.reply ++ rest)) hc he.call (same_behind _ _ from_call from_call' whole) in
+    none e.reply rest he.reply (same_behind _ _ left (reply_words e.reply ++ rest) calls.rest)
+
+-- what a reader says where it found none
+pub none_read : {X : Type 0} (r : Option X) (P : Type 0) → ((x : X) → r ≢ Some x) → IfNone r P → P
+none_read None P none h = h
+none_read (Some x) P none h = absurd (none x refl)
 
 -- no word of an entry has a space or a newline
 pub entry_words_have_no : (byte : ℕ) (e : Entry) → byte < 45 → IsEntry e → All (HasNo byte) (entry_words e)

@@ -5,11 +5,9 @@ use Rattle.std.specs.Prelude.{Option, Some, None, is_some, is_none, nat_eq, nat_
 use Rattle.std.specs.Option.{unwrap_or, option_map, option_map_or, option_and_then, option_or}
 use Rattle.std.specs.List.{All, filter, range_with_len, flat_map, sum_by}
 use Rattle.std.specs.FinMap as fin
-use Rattle.std.specs.FinSet as set
-use Rattle.std.specs.FinSet.{len-empty}
+use Rattle.std.specs.FinMap.{get-empty}
 use Rattle.std.specs.Ordering.{nat_cmp}
 use Rattle.std.proofs.lemmas.Bool.{and_parts, ltb-true, cases_eq}
-use Rattle.std.proofs.lemmas.List.{append-nil, length-append}
 use Rattle.std.proofs.lemmas.List.FromFn.{length-map-range_with_len}
 use Rattle.std.proofs.lemmas.List.Elements.{All-nil, All-cons, All-head, All-tail, All-map}
 use Rattle.corten_base.specs.declared.calls.Backing.{Backing}
@@ -23,20 +21,24 @@ use Rattle.corten_base.specs.declared.calls.Reply.{Reply}
 use Rattle.corten_base.specs.declared.calls.Reply.TheVariants as reply
 use Rattle.corten_base.specs.declared.calls.Why.{Why}
 use Rattle.corten_base.specs.declared.calls.Why.TheVariants as why
+use Rattle.corten_base.specs.declared.calls.TxnOp.{TxnOp}
 use Rattle.corten_base.specs.declared.calls.TxnOp.TheVariants as op
 use Rattle.corten_base.specs.declared.numbers.Limits.{Limits}
 use Rattle.table_place.specs.declared.Place.{Place}
-use Rattle.table_place.specs.Range.{within}
-use Rattle.table_place.specs.Place.{above, is_above, is_user_page, is_user_range, is_page_range, pages_of, prefix_count}
+use Rattle.table_place.specs.Range.{lies_in}
+use Rattle.table_place.specs.Place.{root, above, is_user_page, is_user_range, is_page_range, pages_of}
 use Rattle.page_map.specs.declared.cell.Cell.{Cell}
-use Rattle.page_map.specs.Cell.{contents, is_past_end}
+use Rattle.page_map.specs.declared.cell.Cell.TheVariants.{Anon, File, Mapped, Swapped}
+use Rattle.page_map.specs.Cell.{frame_of, slot_of, contents, is_past_end}
 use Rattle.page_map.specs.Change.{keys_in, least}
-use Rattle.page_map.specs.Tables.{Tables, need}
+use Rattle.page_map.specs.Tables.{need}
 use Rattle.page_map.specs.Access.{Access, first_page, page_count, allows, outside_user_pages, refused_at, refused_access, wants_frame, loaded}
-use Rattle.page_map.specs.Mapping.{is_mappable, is_right, is_backing, gap}
-use Rattle.page_map.specs.Effect.{answer, space_of, cells_of, placed_at, state_after, above_op, ops_of, wanted_tables, wanting_frames_of}
+use Rattle.page_map.specs.Mapping.{is_mappable, is_right, is_right_within, op_first, op_pages, refused_op, why_undone, undone, after_op, gap}
+use Rattle.page_map.specs.Effect.{answer, space_of, cells_of, placed_at, state_after, wanted_tables, wanting_frames_of, wanting_slots_of}
+use Rattle.page_map.specs.Spaces.{least_absent}
+use Rattle.page_map.specs.Swap.{goes_out, comes_in}
 use Rattle.page_map.specs.Memory.{byte_at, bytes_at}
-use Rattle.page_map.specs.State.{State, AddressSpace, IsConsistent, levels, linked, start, cell_at, is_present, space_at, unused_frames, unused_slots, frame_owners, slot_owners}
+use Rattle.page_map.specs.State.{State, AddressSpace, IsConsistent, SharersAgree, levels, linked, start, cell_at, is_present, space_at, unused_frames, unused_slots, frame_owners, slot_owners}
 use Rattle.page_map.specs.Step.{step, refusal, refusals, first_refusal, refused_unless, reply_why, arguments, no_space, no_spaces, no_place, pages, no_tables, no_frames, no_swap}
 use Rattle.page_map.specs.History.{IsLegal, IsHistory, entry_step, limbo_of}
 use Rattle.page_map.proofs.Steps.{Passed, passed, not_none, refused, accepted}
@@ -44,14 +46,12 @@ use Rattle.page_map.proofs.Unmapped.{held_of}
 use Rattle.page_map.proofs.Owners.{same_some}
 use Rattle.page_map.proofs.Least.{answered, least_passes, none_below_least, unanswered}
 use Rattle.page_map.proofs.Mappings.{page_range, gap_user}
-use Rattle.page_map.proofs.Need.{need_of_range}
-use Rattle.page_map.proofs.Evaluate.{difference_empty}
-use Rattle.page_map.proofs.Places.{place_total, place_exact}
-use Rattle.page_map.proofs.Keys.{keys_in_more, chosen}
 use Rattle.page_map.proofs.Memory.{loaded_is}
+use Rattle.mm_model.proofs.Bounds.{few_pass}
 use Rattle.mm_script.specs.CallLine.{IsCall, IsWithin, IsAccess}
 use Rattle.mm_script.specs.ScriptText.{AreLimits}
-use Rattle.history_text.specs.Replies.{IsReply}
+use Rattle.history_text.specs.Replies.{IsReply, IsWhy}
+use Rattle.history_text.proofs.Amounts.{nothing_needed, range_needs, pages_few, need_listed, few_above, keys_below, keys_few, keys_nowhere}
 use Rattle.history_text.proofs.ByteCells.{AreBytes, AreAllBytes}
 use Rattle.history_text.proofs.Closings.{few_unused}
 
@@ -143,60 +143,52 @@ spelled_access files cells a none r e =
     let at = answered _ _ _ r e in
     spelled_at files a.write at.0 _ (user_small at.0 (touched_user a at.0 none at.1.0 at.1.1)) r at.1.2
 
--- ---- page tables
+-- ---- operations
 
-nothing_needed : (tables : Tables) → need [] tables ≡ 0
-nothing_needed tables = ap set.len (difference_empty place_total place_exact tables) ∙ len-empty _
+-- a page of a range of user pages
+page_in : (at len page : ℕ) → is_page_range 4 at len ≡ true → page < at / 4096 + pages_of len → 4096 * page < 2 ^ 64
+page_in at len page right inside = let small = range_small (at / 4096) (pages_of len) page (page_range 4 at len right).0 inside in omega (arith, small)
 
-few_prefixes : (low count : ℕ) → sum_by (λ level. prefix_count level low count) (range_with_len 1 4) ≤ 4 * count + 4
-few_prefixes low count = omega arith
-
-range_needs : (space low count : ℕ) (tables : Tables) → count ≤ 2 ^ 52 → need (above 4 space low count ++ []) tables < 2 ^ 64
-range_needs space low count tables few =
-    let whole = need_of_range 4 space low count tables in
-    let all = few_prefixes low count in
-    subst (λ ps. need ps tables < 2 ^ 64) (sym (append-nil (above 4 space low count))) (omega (arith, whole, all, few))
-
-pages_few : (len : ℕ) → len < 2 ^ 64 → pages_of len ≤ 2 ^ 52
-pages_few len h = omega (arith, h)
-
--- ---- keys of a range
-
-none_kept : {X : Type 0} (p : X → Bool) (xs : List X) → ((x : X) → p x ≡ false) → filter p xs ≡ []
-none_kept p [] h = refl
-none_kept p (x ∷ xs) h = ap (λ b. cond b (x ∷ filter p xs) (filter p xs)) (h x) ∙ none_kept p xs h
-
-no_range : (first q : ℕ) → within first 0 q ≡ false
-no_range first q = go (within first 0 q) refl
+found_spelled : (f : ℕ → Why) (at len : ℕ) (passes : ℕ → Bool) (w : Why) → ((page : ℕ) → 4096 * page < 2 ^ 64 → IsWhy (f page)) → is_page_range 4 at len ≡ true
+    → option_map f (least (at / 4096) (pages_of len) passes) ≡ Some w → IsWhy w
+found_spelled f at len passes w each right e = go (least (at / 4096) (pages_of len) passes) refl e
   where
-    go : (b : Bool) → within first 0 q ≡ b → b ≡ false
-    go false e = refl
-    go true e =
-        let parts = and_parts (nat_le first q) (nat_lt q (first + 0)) e in
-        let low = ltb-true q (first + 0) parts.1 in
-        absurd (omega (arith, low, le_from first q parts.0))
-      where
-        le_from : (a b : ℕ) → nat_le a b ≡ true → a ≤ b
-        le_from a b h = grind arith
+    go : (o : Option ℕ) → least (at / 4096) (pages_of len) passes ≡ o → option_map f o ≡ Some w → IsWhy w
+    go None is e = absurd (not_none (sym e))
+    go (Some page) is e = subst IsWhy (same_some e) (each page (page_in at len page right (least_passes (at / 4096) (pages_of len) passes page is).1))
 
-module _ {X : Type 0} (passes : X → Bool) where
-  chosen_few : (k : ℕ) (o : Option X) → length (chosen passes k o) ≤ 1
-  unfolding chosen
-  chosen_few k None = omega arith
-  chosen_few k (Some x) = go (passes x)
+-- why an operation with right arguments is refused
+op_spelled : (files : List (List ℕ)) (o : TxnOp) (cells : AddressSpace) (w : Why) → is_right 4 files o ≡ true → refused_op o cells ≡ Some w → IsWhy w
+op_spelled files (op.Map at true len perm what) cells w right e =
+    found_spelled (λ page. why.Exists (4096 * page)) at len (λ page. is_some (fin.get cells page)) w (λ page h. h) (and_parts (is_mappable 4 files len what) (is_page_range 4 at len) right).1 e
+op_spelled files (op.Map at false len perm what) cells w right e = absurd (not_none (sym e))
+op_spelled files (op.Unmap at len) cells w right e = absurd (not_none (sym e))
+op_spelled files (op.Protect at len perm) cells w right e = found_spelled (λ page. why.Hole (4096 * page)) at len (λ page. is_none (fin.get cells page)) w (λ page h. h) right e
+
+why_reply : (w : Why) → IsWhy w → IsReply (reply_why w)
+why_reply why.Einval h = tt
+why_reply (why.Exists at) h = h
+why_reply (why.Hole at) h = h
+
+-- the first operation of a transaction that is refused
+module _ (files : List (List ℕ)) (first count : ℕ) where
+  why_spelled : (o : TxnOp) (cells : AddressSpace) (w : Why) → why_undone (is_right_within 4 files first count) o cells ≡ Some w → IsWhy w
+  why_spelled o cells w e = go (is_right_within 4 files first count o) refl e
     where
-      go : (b : Bool) → length (cond b (k ∷ []) []) ≤ 1
-      go true = omega arith
-      go false = omega arith
+      go : (b : Bool) → is_right_within 4 files first count o ≡ b → cond b (refused_op o cells) (Some why.Einval) ≡ Some w → IsWhy w
+      go false is e = subst IsWhy (same_some e) tt
+      go true is e = op_spelled files o cells w (and_parts (is_right 4 files o) (lies_in (op_first o) (op_pages o) first count) is).0 e
 
-  keys_few : (m : fin.FinMap nat_cmp X) (first n : ℕ) → length (keys_in m first n passes) ≤ n
-  keys_few m first zero =
-      let none = none_kept (λ e. within first 0 e.0 && passes e.1) (fin.entries m) (λ e. ap (λ b. b && passes e.1) (no_range first e.0)) in
-      let all = ap (λ es. length (map (λ (e : ℕ × X). e.0) es)) none in
-      omega (arith, all)
-  keys_few m first (suc n) =
-      let more = ap length (keys_in_more passes m first n) ∙ length-append (keys_in m first n passes) (chosen passes (first + n) (fin.get m (first + n))) in
-      omega (arith, more, keys_few m first n, chosen_few (first + n) (fin.get m (first + n)))
+  undone_here : (o : TxnOp) (k : ℕ) (cells : AddressSpace) (rest : Option (ℕ × Why)) (u : ℕ × Why) → 1 ≤ k → k ≤ 16 → (rest ≡ Some u → IsReply (reply.Undone u.0 u.1))
+      → (w : Option Why) → why_undone (is_right_within 4 files first count) o cells ≡ w → option_or (option_map {U = ℕ × Why} (λ v. (k, v)) w) rest ≡ Some u → IsReply (reply.Undone u.0 u.1)
+  undone_here o k cells rest u some few later None is e = later e
+  undone_here o k cells rest u some few later (Some w) is e = subst (λ (v : ℕ × Why). IsReply (reply.Undone v.0 v.1)) (same_some e) ((some, few), why_spelled o cells w is)
+
+  undone_spelled : (ops : List TxnOp) (k : ℕ) (cells : AddressSpace) (u : ℕ × Why) → 1 ≤ k → k + length ops ≤ 17 → undone (is_right_within 4 files first count) k ops cells ≡ Some u → IsReply (reply.Undone u.0 u.1)
+  undone_spelled [] k cells u some few e = absurd (not_none (sym e))
+  undone_spelled (o ∷ ops) k cells u some few e =
+      undone_here o k cells (undone (is_right_within 4 files first count) (k + 1) ops (after_op o cells)) u some (omega (arith, few))
+      (λ f. undone_spelled ops (k + 1) (after_op o cells) u (omega arith) (omega (arith, few)) f) (why_undone (is_right_within 4 files first count) o cells) refl e
 
 -- ---- a call that is refused
 
@@ -210,6 +202,11 @@ module _ (st : State) (thread limbo : ℕ) (ok : IsConsistent st) (hl : AreLimit
   spelled_arguments (call.Load space at len) h = spelled_outside (record { at = at; len = len; write = false; stored = [] }) (record { at = h.1; some = h.2.0; few = h.2.1 })
   spelled_arguments (call.Store space at bytes) h = spelled_outside (record { at = at; len = length bytes; write = true; stored = bytes }) (record { at = h.1; some = h.2.0; few = h.2.1 })
   spelled_arguments (call.Fault space at write) h = spelled_outside (record { at = at; len = 1; write = write; stored = [] }) (record { at = h.1; some = omega arith; few = omega arith })
+  spelled_arguments call.Spawn h = spelled_not
+  spelled_arguments (call.Fork space) h = spelled_not
+  spelled_arguments (call.Exit space) h = spelled_not
+  spelled_arguments (call.SwapOut space at len) h = spelled_unless _ reply.Einval tt
+  spelled_arguments (call.SwapIn space at len) h = spelled_unless _ reply.Einval tt
   spelled_arguments _ h = absurd h
 
   spelled_space : (c : Call) → Spelled (no_space st c)
@@ -226,77 +223,76 @@ module _ (st : State) (thread limbo : ℕ) (ok : IsConsistent st) (hl : AreLimit
   spelled_spaces (call.Load space at len) h = spelled_not
   spelled_spaces (call.Store space at bytes) h = spelled_not
   spelled_spaces (call.Fault space at write) h = spelled_not
+  spelled_spaces call.Spawn h = spelled_unless _ reply.NoSpaces tt
+  spelled_spaces (call.Fork space) h = spelled_unless _ reply.NoSpaces tt
+  spelled_spaces (call.Exit space) h = spelled_not
+  spelled_spaces (call.SwapOut space at len) h = spelled_not
+  spelled_spaces (call.SwapIn space at len) h = spelled_not
   spelled_spaces _ h = absurd h
-
-  -- a page of a range of user pages
-  page_in : (at len page : ℕ) → is_page_range 4 at len ≡ true → page < at / 4096 + pages_of len → 4096 * page < 2 ^ 64
-  page_in at len page right inside = let small = range_small (at / 4096) (pages_of len) page (page_range 4 at len right).0 inside in omega (arith, small)
 
   spelled_place : (c : Call) → IsCall c → arguments st c ≡ None → Spelled (no_place st thread c)
   spelled_place (call.Map space place.Any len perm what) h right = spelled_unless _ reply.NoRoom tt
   spelled_place (call.Map space (place.At at) len perm what) h right = spelled_not
   spelled_place (call.Map space (place.New at) len perm what) h right =
-      spelled_each reply_why (option_map (λ page. why.Exists (4096 * page)) (least (at / 4096) (pages_of len) (λ page. is_some (fin.get (space_at st space) page)))) found
-    where
-      right_range : is_page_range 4 at len ≡ true
-      right_range = (and_parts (is_mappable 4 st.files len what) (is_page_range 4 at len) (held_of _ _ right)).1
-
-      found : (w : Why) → option_map (λ page. why.Exists (4096 * page)) (least (at / 4096) (pages_of len) (λ page. is_some (fin.get (space_at st space) page))) ≡ Some w → IsReply (reply_why w)
-      found w f = go (least (at / 4096) (pages_of len) (λ page. is_some (fin.get (space_at st space) page))) refl f
-        where
-          go : (o : Option ℕ) → least (at / 4096) (pages_of len) (λ page. is_some (fin.get (space_at st space) page)) ≡ o → option_map (λ page. why.Exists (4096 * page)) o ≡ Some w → IsReply (reply_why w)
-          go None e f = absurd (not_none (sym f))
-          go (Some page) e f =
-              let inside = (least_passes (at / 4096) (pages_of len) (λ page. is_some (fin.get (space_at st space) page)) page e).1 in
-              subst (λ v. IsReply (reply_why v)) (same_some f) (page_in at len page right_range inside)
+      spelled_each reply_why (refused_op (op.Map at true len perm what) (space_at st space))
+      (λ w e. why_reply w (op_spelled st.files (op.Map at true len perm what) (space_at st space) w (held_of _ _ right) e))
   spelled_place (call.Unmap space at len) h right = spelled_not
   spelled_place (call.Protect space at len perm) h right = spelled_not
   spelled_place (call.Load space at len) h right = spelled_not
   spelled_place (call.Store space at bytes) h right = spelled_not
   spelled_place (call.Fault space at write) h right = spelled_not
+  spelled_place call.Spawn h right = spelled_not
+  spelled_place (call.Fork space) h right = spelled_not
+  spelled_place (call.Exit space) h right = spelled_not
+  spelled_place (call.SwapOut space at len) h right = spelled_not
+  spelled_place (call.SwapIn space at len) h right = spelled_not
   spelled_place _ h right = absurd h
 
   spelled_pages : (c : Call) → IsCall c → arguments st c ≡ None → Spelled (pages st c)
   spelled_pages (call.Protect space at len perm) h right =
-      spelled_each reply_why (option_map (λ page. why.Hole (4096 * page)) (least (at / 4096) (pages_of len) (λ page. is_none (fin.get (space_at st space) page)))) found
-    where
-      found : (w : Why) → option_map (λ page. why.Hole (4096 * page)) (least (at / 4096) (pages_of len) (λ page. is_none (fin.get (space_at st space) page))) ≡ Some w → IsReply (reply_why w)
-      found w f = go (least (at / 4096) (pages_of len) (λ page. is_none (fin.get (space_at st space) page))) refl f
-        where
-          go : (o : Option ℕ) → least (at / 4096) (pages_of len) (λ page. is_none (fin.get (space_at st space) page)) ≡ o → option_map (λ page. why.Hole (4096 * page)) o ≡ Some w → IsReply (reply_why w)
-          go None e f = absurd (not_none (sym f))
-          go (Some page) e f =
-              let inside = (least_passes (at / 4096) (pages_of len) (λ page. is_none (fin.get (space_at st space) page)) page e).1 in
-              subst (λ v. IsReply (reply_why v)) (same_some f) (page_in at len page (held_of _ _ right) inside)
+      spelled_each reply_why (refused_op (op.Protect at len perm) (space_at st space))
+      (λ w e. why_reply w (op_spelled st.files (op.Protect at len perm) (space_at st space) w (held_of _ _ right) e))
   spelled_pages (call.Load space at len) h right = spelled_access st.files _ (record { at = at; len = len; write = false; stored = [] }) right
   spelled_pages (call.Store space at bytes) h right = spelled_access st.files _ (record { at = at; len = length bytes; write = true; stored = bytes }) right
   spelled_pages (call.Fault space at write) h right = spelled_access st.files _ (record { at = at; len = 1; write = write; stored = [] }) right
   spelled_pages (call.Map space where_to len perm what) h right = spelled_not
   spelled_pages (call.Unmap space at len) h right = spelled_not
+  spelled_pages call.Spawn h right = spelled_not
+  spelled_pages (call.Fork space) h right = spelled_not
+  spelled_pages (call.Exit space) h right = spelled_not
+  spelled_pages (call.SwapOut space at len) h right = spelled_not
+  spelled_pages (call.SwapIn space at len) h right = spelled_not
   spelled_pages _ h right = absurd h
+
+  no_tables_wanted : need [] st.tables < 2 ^ 64
+  no_tables_wanted = omega (arith, nothing_needed st.tables)
+
+  -- a space has fewer than 2 ^ 35 pages
+  few_pages : (space : ℕ) → length (fin.keys (space_at st space)) ≤ 2 ^ 35
+  few_pages space = keys_below (space_at st space) (2 ^ 35) (λ p c e. user_small p (ok.pages space p c e))
 
   few_wanted_tables : (c : Call) → IsCall c → need (wanted_tables st thread c) st.tables < 2 ^ 64
   few_wanted_tables (call.Map space where_to len perm what) h = range_needs space (placed_at st thread space where_to len / 4096) (pages_of len) st.tables (pages_few len h.2)
-  few_wanted_tables (call.Unmap space at len) h = none
+  few_wanted_tables (call.Unmap space at len) h = no_tables_wanted
+  few_wanted_tables (call.Protect space at len perm) h = no_tables_wanted
+  few_wanted_tables (call.Load space at len) h = no_tables_wanted
+  few_wanted_tables (call.Store space at bytes) h = no_tables_wanted
+  few_wanted_tables (call.Fault space at write) h = no_tables_wanted
+  few_wanted_tables call.Spawn h = go (least_absent st)
     where
-      none : need [] st.tables < 2 ^ 64
-      none = omega (arith, nothing_needed st.tables)
-  few_wanted_tables (call.Protect space at len perm) h = none
+      go : (o : Option ℕ) → need (option_map_or (λ new. root 4 new ∷ []) o []) st.tables < 2 ^ 64
+      go None = no_tables_wanted
+      go (Some new) = omega (arith, need_listed (root 4 new ∷ []) st.tables)
+  few_wanted_tables (call.Fork space) h = go (least_absent st)
     where
-      none : need [] st.tables < 2 ^ 64
-      none = omega (arith, nothing_needed st.tables)
-  few_wanted_tables (call.Load space at len) h = none
-    where
-      none : need [] st.tables < 2 ^ 64
-      none = omega (arith, nothing_needed st.tables)
-  few_wanted_tables (call.Store space at bytes) h = none
-    where
-      none : need [] st.tables < 2 ^ 64
-      none = omega (arith, nothing_needed st.tables)
-  few_wanted_tables (call.Fault space at write) h = none
-    where
-      none : need [] st.tables < 2 ^ 64
-      none = omega (arith, nothing_needed st.tables)
+      go : (o : Option ℕ) → need (option_map_or (λ new. root 4 new ∷ flat_map (λ page. above 4 new page 1) (fin.keys (space_at st space))) o []) st.tables < 2 ^ 64
+      go None = no_tables_wanted
+      go (Some new) =
+          let wanted : List Place = flat_map (λ page. above 4 new page 1) (fin.keys (space_at st space)) in
+          omega (arith, need_listed (root 4 new ∷ wanted) st.tables, few_above new (fin.keys (space_at st space)), few_pages space)
+  few_wanted_tables (call.Exit space) h = no_tables_wanted
+  few_wanted_tables (call.SwapOut space at len) h = no_tables_wanted
+  few_wanted_tables (call.SwapIn space at len) h = no_tables_wanted
   few_wanted_tables _ h = absurd h
 
   spelled_tables : (c : Call) → IsCall c → Spelled (no_tables st thread c limbo)
@@ -307,7 +303,22 @@ module _ (st : State) (thread limbo : ℕ) (ok : IsConsistent st) (hl : AreLimit
       let in_limbo : limbo < 2 ^ 32 = omega (arith, room, tables.1) in
       spelled_where (nat_lt st.limits.tables (linked st + n + limbo)) (reply.NoTables (linked st) limbo n) (there, in_limbo, few_wanted_tables c h)
 
-  few_wanted_frames : (c : Call) → IsCall c → length (wanting_frames_of st c) ≤ 2
+  -- a number stands at one page of a space, so no more pages move than there are numbers
+  few_move : (number_of : Cell → Option ℕ) (limit space first count : ℕ) (passes : Cell → Bool) → SharersAgree number_of st
+      → ((p : ℕ) (c : Cell) → cell_at st space p ≡ Some c → passes c ≡ true → (m : ℕ) × (number_of c ≡ Some m) × (m < limit)) → length (keys_in (space_at st space) first count passes) ≤ limit
+  few_move number_of limit space first count passes shared numbered = go (fin.get st.spaces space) refl
+    where
+      go : (o : Option AddressSpace) → fin.get st.spaces space ≡ o → length (keys_in (space_at st space) first count passes) ≤ limit
+      go None e =
+          let here : space_at st space ≡ fin.empty = ap (λ (o : Option AddressSpace). unwrap_or o fin.empty) e in
+          let none = keys_nowhere passes fin.empty (get-empty nat_cmp) first count in
+          subst (λ (m : AddressSpace). length (keys_in m first count passes) ≤ limit) (sym here) (omega (arith, none))
+      go (Some cells) e =
+          let here : space_at st space ≡ cells = ap (λ (o : Option AddressSpace). unwrap_or o fin.empty) e in
+          subst (λ (m : AddressSpace). length (keys_in m first count passes) ≤ limit) (sym here)
+          (few_pass number_of limit first count passes st space cells e shared (λ q c f. numbered q c (ap (λ (m : AddressSpace). fin.get m q) here ∙ f)))
+
+  few_wanted_frames : (c : Call) → IsCall c → length (wanting_frames_of st c) ≤ 4096
   few_wanted_frames (call.Map space where_to len perm what) h = omega arith
   few_wanted_frames (call.Unmap space at len) h = omega arith
   few_wanted_frames (call.Protect space at len perm) h = omega arith
@@ -320,7 +331,42 @@ module _ (st : State) (thread limbo : ℕ) (ok : IsConsistent st) (hl : AreLimit
   few_wanted_frames (call.Fault space at write) h =
       let a : Access = record { at = at; len = 1; write = write; stored = [] } in
       omega (arith, keys_few (wants_frame st write) (space_at st space) (first_page a) (page_count a), two_pages a (record { at = h.1; some = omega arith; few = omega arith }))
+  few_wanted_frames call.Spawn h = omega arith
+  few_wanted_frames (call.Fork space) h = omega arith
+  few_wanted_frames (call.Exit space) h = omega arith
+  few_wanted_frames (call.SwapOut space at len) h = omega arith
+  few_wanted_frames (call.SwapIn space at len) h =
+      let swap = hl.swap in
+      omega (arith, swap.1, few_move slot_of st.limits.swap space (at / 4096) (pages_of len) comes_in ok.shared_slots (λ p c e. numbered p c e))
+    where
+      numbered : (p : ℕ) (c : Cell) → cell_at st space p ≡ Some c → comes_in c ≡ true → (m : ℕ) × (slot_of c ≡ Some m) × (m < st.limits.swap)
+      numbered p (Swapped perm slot bytes) e h = (slot, refl, ok.slots space p slot (Swapped perm slot bytes) e refl)
+      numbered p (Anon perm) e h = absurd (true≢false (sym h))
+      numbered p (File perm file index) e h = absurd (true≢false (sym h))
+      numbered p (Mapped perm frame bytes) e h = absurd (true≢false (sym h))
   few_wanted_frames _ h = absurd h
+
+  few_wanted_slots : (c : Call) → IsCall c → length (wanting_slots_of st c) ≤ 4096
+  few_wanted_slots (call.Map space where_to len perm what) h = omega arith
+  few_wanted_slots (call.Unmap space at len) h = omega arith
+  few_wanted_slots (call.Protect space at len perm) h = omega arith
+  few_wanted_slots (call.Load space at len) h = omega arith
+  few_wanted_slots (call.Store space at bytes) h = omega arith
+  few_wanted_slots (call.Fault space at write) h = omega arith
+  few_wanted_slots call.Spawn h = omega arith
+  few_wanted_slots (call.Fork space) h = omega arith
+  few_wanted_slots (call.Exit space) h = omega arith
+  few_wanted_slots (call.SwapIn space at len) h = omega arith
+  few_wanted_slots (call.SwapOut space at len) h =
+      let frames = hl.frames in
+      omega (arith, frames.1, few_move frame_of st.limits.frames space (at / 4096) (pages_of len) (goes_out st) ok.shared_frames (λ p c e. numbered p c e))
+    where
+      numbered : (p : ℕ) (c : Cell) → cell_at st space p ≡ Some c → goes_out st c ≡ true → (m : ℕ) × (frame_of c ≡ Some m) × (m < st.limits.frames)
+      numbered p (Mapped perm frame bytes) e h = (frame, refl, ok.frames space p frame (Mapped perm frame bytes) e refl)
+      numbered p (Anon perm) e h = absurd (true≢false (sym h))
+      numbered p (File perm file index) e h = absurd (true≢false (sym h))
+      numbered p (Swapped perm slot bytes) e h = absurd (true≢false (sym h))
+  few_wanted_slots _ h = absurd h
 
   few_free_frames : length (unused_frames st) < 2 ^ 32
   few_free_frames = let few = few_unused (frame_owners st) st.limits.frames in let frames = hl.frames in omega (arith, few, frames.1)
@@ -334,13 +380,9 @@ module _ (st : State) (thread limbo : ℕ) (ok : IsConsistent st) (hl : AreLimit
       spelled_where _ (reply.NoFrames (length (unused_frames st)) (length (wanting_frames_of st c))) (few_free_frames, wanted)
 
   spelled_swap : (c : Call) → IsCall c → Spelled (no_swap st c)
-  spelled_swap (call.Map space where_to len perm what) h = spelled_where _ (reply.NoSwap (length (unused_slots st)) 0) (few_free_slots, omega arith)
-  spelled_swap (call.Unmap space at len) h = spelled_where _ (reply.NoSwap (length (unused_slots st)) 0) (few_free_slots, omega arith)
-  spelled_swap (call.Protect space at len perm) h = spelled_where _ (reply.NoSwap (length (unused_slots st)) 0) (few_free_slots, omega arith)
-  spelled_swap (call.Load space at len) h = spelled_where _ (reply.NoSwap (length (unused_slots st)) 0) (few_free_slots, omega arith)
-  spelled_swap (call.Store space at bytes) h = spelled_where _ (reply.NoSwap (length (unused_slots st)) 0) (few_free_slots, omega arith)
-  spelled_swap (call.Fault space at write) h = spelled_where _ (reply.NoSwap (length (unused_slots st)) 0) (few_free_slots, omega arith)
-  spelled_swap _ h = absurd h
+  spelled_swap c h =
+      let wanted : length (wanting_slots_of st c) < 2 ^ 32 = omega (arith, few_wanted_slots c h) in
+      spelled_where _ (reply.NoSwap (length (unused_slots st)) (length (wanting_slots_of st c))) (few_free_slots, wanted)
 
   spelled_or : (o p : Option Reply) → Spelled o → Spelled p → Spelled (option_or o p)
   spelled_or None p ho hp = hp
@@ -386,6 +428,14 @@ module _ (st : State) (thread limbo : ℕ) (ok : IsConsistent st) (hl : AreLimit
       let small : All (λ b. b < 256) (bytes_at st space at len) = All-map (λ b. b < 256) (byte_at st space) (range_with_len at len) (each_small _ (stands_small all space) (range_with_len at len)) in
       subst IsBytes (sym (loaded_is st ok space a passed.pages)) (subst IsAccess (sym long) few, small)
 
+  -- the number of a new space
+  new_space : unwrap_or (least_absent st) 0 < 64
+  new_space = go (least_absent st) refl
+    where
+      go : (o : Option ℕ) → least_absent st ≡ o → unwrap_or o 0 < 64
+      go None e = omega arith
+      go (Some new) e = let found = least_passes 0 64 (λ space. not (is_present st space)) new e in omega (arith, found.1)
+
   spelled_answer : (c : Call) → thread < 8 → AreAllBytes st → IsCall c → Passed st thread c limbo → IsReply (answer st thread c)
   unfolding answer
   spelled_answer (call.Map space place.Any len perm what) few all h passed = go (gap thread (space_at st space) (pages_of len)) refl
@@ -403,6 +453,11 @@ module _ (st : State) (thread limbo : ℕ) (ok : IsConsistent st) (hl : AreLimit
   spelled_answer (call.Load space at len) few all h passed = spelled_load space at len all h.2 passed
   spelled_answer (call.Store space at bytes) few all h passed = tt
   spelled_answer (call.Fault space at write) few all h passed = tt
+  spelled_answer call.Spawn few all h passed = new_space
+  spelled_answer (call.Fork space) few all h passed = new_space
+  spelled_answer (call.Exit space) few all h passed = tt
+  spelled_answer (call.SwapOut space at len) few all h passed = omega (arith, few_wanted_slots (call.SwapOut space at len) h)
+  spelled_answer (call.SwapIn space at len) few all h passed = omega (arith, few_wanted_frames (call.SwapIn space at len) h)
   spelled_answer _ few all h passed = absurd h
 
   pub spelled_step : (c : Call) → thread < 8 → AreAllBytes st → IsCall c → IsReply (step st thread c limbo).0

@@ -57,26 +57,26 @@ fn is_printed_again(alloc: Global, line: &[u8]) -> Result<bool, AllocError> {
 fn entries_are_printed_as_read(rt: HostRuntime) -> Result<(), Fail> {
     for line in [
         b"7 map 0 any 1 rw- zero = ok".as_slice(),
-        b"0 load 0 0x0 1 = at 0x8000000000".as_slice(),
+        b"0 map 0 new 0x1000 1 r-x file 15 0 = at 0x8000000000".as_slice(),
         b"0 load 0 0x0 1 = bytes 00ff".as_slice(),
-        b"0 load 0 0x0 1 = space 63".as_slice(),
-        b"0 load 0 0x0 1 = moved 4294967295".as_slice(),
+        b"0 spawn = space 63".as_slice(),
+        b"0 out 63 0x0 1 = moved 4294967295".as_slice(),
         b"0 load 0 0x0 1 = done".as_slice(),
         b"0 load 0 0x0 1 = undone 1 einval".as_slice(),
         b"0 load 0 0x0 1 = undone 16 exists 0x1000".as_slice(),
         b"0 load 0 0x0 1 = undone 2 hole 0x1000".as_slice(),
-        b"0 load 0 0x0 1 = einval".as_slice(),
-        b"0 load 0 0x0 1 = nospace".as_slice(),
-        b"0 load 0 0x0 1 = nospaces".as_slice(),
-        b"0 load 0 0x0 1 = noroom".as_slice(),
-        b"0 load 0 0x0 1 = exists 0x1000".as_slice(),
-        b"0 load 0 0x0 1 = hole 0x1000".as_slice(),
+        b"0 unmap 0 0x1000 1 = einval".as_slice(),
+        b"0 exit 63 = nospace".as_slice(),
+        b"0 fork 0 = nospaces".as_slice(),
+        b"0 fault 0 0x0 w = noroom".as_slice(),
+        b"0 map 0 at 0x1000 1 --- zero = exists 0x1000".as_slice(),
+        b"0 protect 0 0x1000 1 r-- = hole 0x1000".as_slice(),
         b"0 load 0 0x0 1 = segv 0x0".as_slice(),
-        b"0 load 0 0x0 1 = denied 0x1000".as_slice(),
+        b"0 store 0 0x1000 00 = denied 0x1000".as_slice(),
         b"0 load 0 0x0 1 = bus 0x1000".as_slice(),
         b"0 load 0 0x0 1 = notables 1 2 18446744073709551615".as_slice(),
         b"0 load 0 0x0 1 = noframes 1 2".as_slice(),
-        b"0 load 0 0x0 1 = noswap 1 2".as_slice(),
+        b"0 in 0 0x1000 1 = noswap 1 2".as_slice(),
     ] {
         assert!(rt; is_printed_again(rt.alloc(), line)?);
     }
@@ -146,7 +146,7 @@ fn spellings_of_no_entry(rt: HostRuntime) -> Result<(), Fail> {
         b"0 load 0 0x0 1 = undone 1 nospace".as_slice(),
         b"0 load 0 0x0 1 = noswap 1".as_slice(),
         b"0 load 0 0x0 1 = notables 1 4294967296 3".as_slice(),
-        b"0 spawn = space 1".as_slice(),
+        b"0 spawn 0 = space 1".as_slice(),
     ] {
         assert!(rt; read_entry(rt.alloc(), line)?.is_none());
     }
