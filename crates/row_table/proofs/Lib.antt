@@ -20,3 +20,5 @@ pub mod Marks
 pub mod Openings
 pub mod Links
 pub mod Sized
+pub mod Stock
+pub mod Grafts

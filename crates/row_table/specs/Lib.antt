@@ -16,3 +16,4 @@ pub mod Close
 pub mod Start
 pub mod Passes
 pub mod Tally
+pub mod Stock
