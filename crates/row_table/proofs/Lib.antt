@@ -22,3 +22,4 @@ pub mod Links
 pub mod Sized
 pub mod Stock
 pub mod Grafts
+pub mod Visits

@@ -13,6 +13,7 @@ pub mod Links
 pub mod Calls
 pub mod Rooms
 pub mod Close
+pub mod Uses
 pub mod Start
 pub mod Passes
 pub mod Tally

@@ -18,6 +18,7 @@ mod stack;
 mod table;
 #[cfg(test)]
 mod tests;
+mod uses;
 mod view;
 
 pub use answers::{Grabbed, Turned, Worn};

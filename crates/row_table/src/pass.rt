@@ -86,18 +86,18 @@ impl<P: Plan> Pass<P> {
     {
         let word = iron.layout.lock(row) as usize;
         let mine = u64::from(self.number) + 1;
-        let found = iron
+        let before = iron
             .table
             .shared
             .compare_exchange::<Grab>(&mut self.seat, word, 0, mine);
-        if found == 0 {
+        if before == 0 {
             self.stack.push_front_reserved(row);
             return Grabbed::Got(iron.take_row(&mut self.seat, row));
         }
-        if found == 256 {
+        if before == 256 {
             Grabbed::Stale
         } else {
-            Grabbed::Held((found - 1) as u8)
+            Grabbed::Held((before - 1) as u8)
         }
     }
 
