@@ -5,6 +5,10 @@ use Rattle.std.proofs.lemmas.List.{map-append}
 use Rattle.std.proofs.lemmas.List.Elements.{filter-append}
 use native.Mathlib.Decide.{ℕ_discrete}
 use mathlib.Core.Logic.{dite}
+use mathlib.Core.Option.{some}
+use lib.ListN.{get_elem?}
+use Rattle.atomic_table.proofs.Lists.{at_snoc}
+use Rattle.walk_core.proofs.Keeps.{found_there}
 use Rattle.walk_core.specs.declared.lists.PutRow.{PutRow}
 use Rattle.walk_core.specs.Lists.{times, Has, among, minus}
 use Rattle.walk_core.specs.Core.{Core, unlinked_rows}
@@ -130,11 +134,21 @@ module _ (k : Layout) (v : View) (old new : Stock) (put : PutRow) (has : v.core.
 
 -- The start
 
-pub may_supply : (k : Layout) (rows : List ℕ) (book : Stock) → length rows ≡ k.rows → book.0.items ≡ range_with_len 2 (k.rows - 2) → book.1.items ≡ [] → book.2 ≡ 2 → MayStart stock k rows book
-may_supply k rows book long free limbo next = record {
+-- rows that hold 0
+abbrev pub AreBlank : List ℕ → Type 0
+AreBlank xs = (i x : ℕ) → get_elem? xs i ≡ some x → x ≡ 0
+
+pub blank_none : (xs : List ℕ) → xs ≡ [] → AreBlank xs
+blank_none xs none i x at = let less = found_there [] i x (subst (λ (l : List ℕ). get_elem? l i ≡ some x) none at) in absurd (omega arith)
+
+pub blank_more : (xs ys : List ℕ) → AreBlank xs → ys ≡ xs ++ 0 ∷ [] → AreBlank ys
+blank_more xs ys blank more i x at = ⊎_elim (λ (old : get_elem? xs i ≡ some x). blank i x old) (λ (last : 0 ≡ x). sym last) (at_snoc xs 0 x i (subst (λ (l : List ℕ). get_elem? l i ≡ some x) more at))
+
+pub may_supply : (k : Layout) (rows : List ℕ) (book : Stock) → length rows ≡ k.rows → AreBlank rows → book.0.items ≡ range_with_len 2 (k.rows - 2) → book.1.items ≡ [] → book.2 ≡ 2 → MayStart stock k rows book
+may_supply k rows book long blank free limbo next = record {
   each_row = long;
-  linked = λ _ _ _ _. tt;
-  others = λ _ _ _ _. tt;
+  linked = λ r x _ at _. blank r x at;
+  others = λ r x _ at. blank r x at;
   journal = refl;
   free = λ r. ap (times r) (sym free);
   limbo = limbo;

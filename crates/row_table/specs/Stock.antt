@@ -1,4 +1,4 @@
--- A small plan for tests: a book of free rows, rows in limbo and the next generation, and what a pass has that holds row 1.
+-- A small plan for tests: a book of free rows, rows in limbo and the next generation, and rows that hold 0 where they are blank or their entry 5 is 0; and what a pass has that holds row 1.
 --     Stock, stock, lawful      the book, the plan and its laws
 --     View, HasRoot      what a pass knows that holds row 1, in whose entry 5 this word stands
 --     HasGrant      it was granted a row, and may set it up with this generation
@@ -26,8 +26,8 @@ stock = record {
   free = λ b. b.0.items;
   limbo = λ b. b.1.items;
   next_generation = λ b. b.2;
-  agrees = λ _ _ _ _. ⊤;
-  is_blank = λ _. ⊤;
+  agrees = λ _ _ words x. slice_index words 5 ≡ 0 → x ≡ 0;
+  is_blank = λ x. x ≡ 0;
   may_follow = λ _ a b. (a.2 ≤ b.2) × HasGrown {E = Unit {0}} [] [];
   same_fixed = λ _ _. ⊤;
   shows_limbo = λ _. false;

@@ -32,6 +32,9 @@ pub mark_stale-requires-clause-unlinked : goal.mark_stale-requires-clause-unlink
 mark_stale-requires-clause-unlinked c κs = let o = c.open_row-content.ensures.opens in let v4 = view_of c.unlink.new.self in
     may_mark_unlinked _ _ _ _ v4 v4 _ _ (519 + 4096 * c.from.result + 4194304 * c.args.generation) c.requires.grant c.set_up.ensures.sets_up o.0 o.2 (ap (λ (n : ℕ). 519 + 4096 * n + 4194304 * c.args.generation) c.from.ensures) c.set_entry.ensures.sets c.unlink.ensures.unlinks
 
+pub mark_stale-requires-clause-blank : goal.mark_stale-requires-clause-blank
+mark_stale-requires-clause-blank c κs = c.open_row-content.ensures.opens.1
+
 pub returns-clause-root : goal.returns-clause-root
 returns-clause-root c = let o = c.open_row-content.ensures.opens in
     marked_one _ _ _ _ _ _ _ _ (519 + 4096 * c.from.result + 4194304 * c.args.generation) c.requires.grant c.set_up.ensures.sets_up o.0 o.2 (ap (λ (n : ℕ). 519 + 4096 * n + 4194304 * c.args.generation) c.from.ensures) c.set_entry.ensures.sets c.unlink.ensures.unlinks c.mark_stale.ensures.marks
