@@ -14,6 +14,7 @@ use Rattle.row_table.specs.Plan.{Meaning}
 use Rattle.row_table.specs.Rows.{lock_of, generation_of}
 use Rattle.row_table.specs.Rule.{Homes, Seat, Table, levels_of, view, IsOne, core_of, Contents, Knows, Holds}
 use Rattle.row_table.specs.Crossings.{entered, left, CrossTells, EpochTells}
+use Rattle.row_table.proofs.Known.{right_now}
 use Rattle.row_table.proofs.Shown.{ShowsSame, shows_same}
 use Rattle.row_table.proofs.Frames.{RowHome, words_after, moved, unchanged, home_of, home_moves}
 
@@ -124,7 +125,7 @@ module _ {R B E : Type 0} (M : Meaning R B E) where
         keeps,
         tt,
         unchanged M k first s id (epoch_at k.rows n) (get_or s.words (epoch_at k.rows n) 0) m.0 h me refl,
-        λ p _. (is, (let low = h.good.stands.bounded v.number know.there in let e = know.epoch in omega arith), refl),
+        λ p _. (is, (let low = h.good.stands.bounded v.number know.there in let e = know.epoch in omega arith), refl, right_now M k first s h v mine),
       )
 
   -- the same where the place is known by an equation

@@ -34,7 +34,7 @@ use Rattle.row_table.specs.Vacant.{KeepsVacant}
 use Rattle.row_table.specs.Moves.{grabbed, looked, got, released, NotInHand, GrabSays, GrabTells, ReleaseTells, MayGrab, Fits}
 use Rattle.row_table.proofs.Shown.{words_long, ShowSame, lock_shows}
 use Rattle.row_table.proofs.Frames.{RowHome, moved_here, knows_shown, contents_locked, home_of, home_moves}
-use Rattle.row_table.proofs.Known.{held_below, place_known, links_below, loose_row, holder_of}
+use Rattle.row_table.proofs.Known.{held_below, place_known, links_below, links_lead, right_now, loose_row, holder_of}
 use Rattle.row_table.proofs.Views.{kept, rows_without, pass_is, is_linked, not_in_hand, guard_grab, has_held}
 
 -- a row's lock word is at most that of a row that nobody may take
@@ -141,11 +141,14 @@ module _ {R B E : Type 0} (M : Meaning R B E) where
             subst (GrabSays m found (w ∷ [], (r, Some (Row t.0)) ∷ m.1)) e (
               (λ _. (
                 record {
+                  right = right_now M k first s h v mine;
+                  there = subst (λ (y : Layout). r < y.rows) (sym know.layout) less;
                   place = place;
                   known = place_known M k first s h v mine r;
                   words = words;
                   all = words_long s.words r;
                   below = links_below M k first s h v mine r less;
+                  leads = links_lead M k first s h v mine r less;
                   content = t.0;
                   linked = not_in_hand M k first s h v mine r linked;
                   once = λ has. let there = has_held M k first s h v mine r has in omega arith;

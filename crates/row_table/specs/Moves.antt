@@ -5,7 +5,7 @@
 --     GrabSays, GrabTells, ReleaseTells      what a step tells its seat
 --     NotInHand, MayGrab      a row is not in the pass's hand;  when a pass may grab
 --     Fits, MayRelease      a content that may stand in a row;  when a pass may release
-use Rattle.std.specs.Prelude.{◌≡◌, ◌≢◌, ℕ, ◌≤◌, not, true, false, ◌⊎◌, List, [], ◌∷◌, ◌++◌, nat_eq, Option, None, Some, length}
+use Rattle.std.specs.Prelude.{◌≡◌, ◌≢◌, ℕ, ◌<◌, ◌≤◌, not, true, false, ◌⊎◌, List, [], ◌∷◌, ◌++◌, nat_eq, Option, None, Some, length}
 use Rattle.std.specs.List.{Contains, filter}
 use Rattle.atomic_table.specs.Table.{Step, rest}
 use Rattle.table_place.specs.declared.Place.{Place}
@@ -18,8 +18,8 @@ use Rattle.row_table.specs.declared.view.PassView.{PassView}
 use Rattle.row_table.specs.declared.view.HeldRow.{HeldRow}
 use Rattle.row_table.specs.declared.view.Finding.{Finding}
 use Rattle.row_table.specs.Plan.{Meaning}
-use Rattle.row_table.specs.Rule.{Slot, Seat, view}
-use Rattle.row_table.specs.Known.{LinksRow, IsKnownPlace, IsHolder, IsLoose, LinksBelow}
+use Rattle.row_table.specs.Rule.{Slot, Seat, levels_of, view}
+use Rattle.row_table.specs.Known.{LinksRow, IsKnownPlace, IsHolder, IsLoose, LinksBelow, LinksLead, IsRight}
 
 abbrev pub finding : ℕ → Place → Option ℕ → ℕ → Finding
 finding row place index word = record { row = row; place = place; index = index; word = word }
@@ -46,11 +46,14 @@ module _ {R B E : Type 0} where
 
   -- what a grab that took the row found: its position, its 512 entry words and its content. The row is linked, and the pass did not hold it
   pub record Finds (row : ℕ) (v : PassView R B E) : Type 0 where
+    pub right : IsRight v
+    pub there : row < v.layout.rows
     pub place : Place
     pub known : IsKnownPlace v row place
     pub words : List ℕ
     pub all : length words ≡ 512
     pub below : LinksBelow v.layout.rows words
+    pub leads : LinksLead (levels_of v.layout) place words
     pub content : R
     pub linked : NotInHand v row
     pub once : ¬ Has v.core.held row
