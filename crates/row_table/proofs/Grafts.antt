@@ -1,35 +1,31 @@
 -- What a pass of the tests' plan with rows to grant has after each of its calls.
-use Rattle.std.proofs.Common.{◌≡◌, ◌≢◌, ℕ, ◌+◌, ◌*◌, ◌^◌, ◌<◌, ◌≤◌, ◌&&◌, eqb, cond, not, Bool, true, false, List, [], ◌∷◌, ◌++◌, map, length, get_or, set, inl, inr, sym, refl, ap, ◌∙◌, subst, ⊎_elim, arith, append-nil, eq-eqb, ne_eqb, get_or-set_same, length-set, Some, None}
+use Rattle.std.proofs.Common.{◌≡◌, ◌≢◌, ℕ, ◌+◌, ◌*◌, ◌^◌, ◌<◌, ◌≤◌, eqb, cond, not, Bool, true, false, List, [], ◌∷◌, ◌++◌, map, length, get_or, set, inr, sym, refl, ap, ◌∙◌, subst, ⊎_elim, arith, eq-eqb, ne_eqb, get_or-set_same, length-set, Some, None}
 use Rattle.std.specs.List.{Contains, filter, find}
 use Rattle.std.proofs.lemmas.List.Elements.{Contains-append_left, Contains-append_right}
-use native.Mathlib.Decide.{ℕ_discrete}
-use mathlib.Core.Logic.{dite}
 use Rattle.table_place.specs.declared.Place.{Place}
 use Rattle.table_place.specs.Place.{directory, entry_place, is_place}
 use Rattle.walk_core.specs.declared.lists.PutRow.{PutRow}
 use Rattle.walk_core.specs.declared.event.SetPart.TheVariants.{Position, Generation}
 use Rattle.walk_core.specs.declared.pass.GrantedRow.{GrantedRow}
 use Rattle.walk_core.specs.declared.pass.UnlinkedRow.{UnlinkedRow}
-use Rattle.walk_core.specs.declared.pass.Stand.{Stand}
 use Rattle.walk_core.specs.Words.{is_link, link_row, link_generation, link_word}
-use Rattle.walk_core.specs.Lists.{times, Has, among, without, minus}
-use Rattle.walk_core.specs.Core.{granted_rows, unlinked_rows, granted_at, set_up, times_in_hand}
+use Rattle.walk_core.specs.Lists.{times, Has, without}
+use Rattle.walk_core.specs.Core.{unlinked_rows}
 use Rattle.walk_core.specs.Events.{top, newly_granted, newly_unlinked, granted_after_part, granted_after_entry, unlinked_after_give, stand_after_look}
 use Rattle.walk_core.specs.Guards.{StandsOn, put_rows}
-use Rattle.walk_core.proofs.RowLists.{times-nil, times-cons, times-cons_same, times-cons_other, times-append, times_one_same, times_one_other, among_true}
+use Rattle.walk_core.proofs.RowLists.{times-nil, times-cons_same, times-cons_other, times-append, times_one_same, times_one_other, among_true}
 use Rattle.walk_core.proofs.Spellings.{link_word_is, link_row-link_word, link_generation-link_word, is_link-link_word, zero_no_link}
 use Rattle.row_layout.specs.declared.places.Layout.{Layout}
-use Rattle.row_table.specs.declared.view.PassView.{PassView}
 use Rattle.row_table.specs.declared.view.HeldRow.{HeldRow}
 use Rattle.row_table.specs.declared.view.HandRow.{HandRow}
-use Rattle.row_table.specs.Rule.{levels_of, unmoved}
+use Rattle.row_table.specs.Rule.{levels_of}
 use Rattle.row_table.specs.Vacant.{blank_words}
-use Rattle.row_table.specs.Moves.{grabbed, got, released, Finds, Fits, MayGrab, NotInHand}
+use Rattle.row_table.specs.Moves.{grabbed, got, released, Finds, Fits, NotInHand}
 use Rattle.row_table.specs.Crossings.{entered, left}
-use Rattle.row_table.specs.Looks.{looked_at, Reads, MayLook}
-use Rattle.row_table.specs.Books.{given, hand_rows, taken_rows, put_list, turned, Learns, Gives, MayGive}
+use Rattle.row_table.specs.Looks.{looked_at, Reads}
+use Rattle.row_table.specs.Books.{given, hand_rows, taken_rows, put_list, turned, Learns, Gives}
 use Rattle.row_table.specs.Openings.{with_place, with_number, opened_row, prepared, opened, MaySetUp, MayOpen, IsSetUp}
-use Rattle.row_table.specs.Links.{with_word, newly_linked, with_link, link_set, word_set, entry_set, entry_cut, LinksHand, MaySetEntry, Sets, MayUnlink, Unlinks}
+use Rattle.row_table.specs.Links.{with_word, newly_linked, with_link, link_set, word_set, entry_cut, MaySetEntry, Sets, MayUnlink, Unlinks}
 use Rattle.row_table.specs.Close.{IsIdle}
 use Rattle.row_table.specs.Stock.{Stock, stock, View, HasRoot, HasGrant}
 use Rattle.row_table.proofs.Views.{head_or_later, in_head, in_tail}

@@ -1,5 +1,5 @@
 -- What the tests' plan with rows to grant lets a pass do.
-use Rattle.std.proofs.Common.{◌≡◌, ◌≢◌, ℕ, ◌+◌, ◌-◌, ◌≤◌, cond, not, Bool, true, false, List, [], ◌∷◌, ◌++◌, map, length, get_or, set, inl, inr, sym, refl, ap, ◌∙◌, subst, ⊎_elim, arith, append-nil, eq-eqb, ne_eqb, Some, None}
+use Rattle.std.proofs.Common.{◌≡◌, ℕ, ◌+◌, ◌-◌, ◌≤◌, cond, not, Bool, true, false, List, [], ◌∷◌, ◌++◌, length, inl, sym, refl, ap, ◌∙◌, subst, ⊎_elim, arith, append-nil}
 use Rattle.std.specs.List.{Contains, filter, range_with_len, AllByRecursion}
 use Rattle.std.proofs.lemmas.List.{map-append}
 use Rattle.std.proofs.lemmas.List.Elements.{filter-append}
@@ -11,15 +11,15 @@ use Rattle.atomic_table.proofs.Lists.{at_snoc}
 use Rattle.walk_core.proofs.Keeps.{found_there}
 use Rattle.walk_core.specs.declared.lists.PutRow.{PutRow}
 use Rattle.walk_core.specs.Lists.{times, Has, among, minus}
-use Rattle.walk_core.specs.Core.{Core, unlinked_rows}
+use Rattle.walk_core.specs.Core.{unlinked_rows}
 use Rattle.walk_core.specs.Guards.{put_rows, MayPut}
-use Rattle.walk_core.proofs.RowLists.{times-nil, times-cons, times-append, times_one_same, times_one_other, times_minus_same, times_minus_other, among_true, among_false, range-push}
+use Rattle.walk_core.proofs.RowLists.{times-nil, times-append, times_one_same, times_one_other, times_minus_same, times_minus_other, among_true, among_false, range-push}
 use Rattle.row_layout.specs.declared.places.Layout.{Layout}
 use Rattle.row_table.specs.Books.{book_core, swept_rows, put_list, taken_rows, MayGive}
 use Rattle.row_table.specs.Start.{MayStart}
 use Rattle.row_table.specs.Stock.{Stock, stock, View}
 use Rattle.row_table.proofs.Views.{in_head, in_tail}
-use Rattle.row_table.proofs.Turns.{has_contained, contained_map}
+use Rattle.row_table.proofs.Turns.{has_contained}
 use Rattle.row_table.proofs.Beside.{has_part}
 
 -- Lists

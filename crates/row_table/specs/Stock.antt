@@ -2,7 +2,7 @@
 --     Stock, stock, lawful      the book, the plan and its laws
 --     View, HasRoot      what a pass knows that holds row 1, in whose entry 5 this word stands
 --     HasGrant      it was granted a row, and may set it up with this generation
-use Rattle.std.specs.Prelude.{◌≡◌, ◌≢◌, ℕ, ◌+◌, ◌^◌, ◌<◌, ◌≤◌, ⊤, Bool, true, false, List, [], ◌∷◌, length, slice_index, None, Some}
+use Rattle.std.specs.Prelude.{◌≡◌, ◌≢◌, ℕ, ◌^◌, ◌<◌, ◌≤◌, ⊤, Bool, true, false, List, [], ◌∷◌, length, slice_index, None, Some}
 use Rattle.std.specs.Global.{Vec}
 use Rattle.std.specs.List.{Contains}
 use Rattle.table_place.specs.Place.{directory, entry_place}
