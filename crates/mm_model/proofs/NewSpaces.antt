@@ -1,25 +1,23 @@
 -- A new space: what its numbers do to the counts, and what stays as it was.
-use Rattle.std.proofs.Common.{◌≡◌, ℕ, zero, suc, ◌+◌, ◌-◌, ◌<◌, ◌≤◌, ◌^◌, Bool, true, false, cond, not, List, [], ◌∷◌, ◌++◌, length, get_or, Bor, refl, sym, ap, subst, ◌∙◌, arith}
+use Rattle.std.proofs.Common.{◌≡◌, ℕ, zero, suc, ◌+◌, ◌-◌, ◌<◌, ◌≤◌, Bool, true, false, cond, not, List, [], ◌∷◌, length, get_or, Bor, refl, sym, ap, subst, ◌∙◌, arith}
 use mathlib.Core.Bool.{true≢false}
 use mathlib.Core.Logic.{◌⊎◌, inl, inr}
 use Rattle.std.specs.Prelude.{Option, Some, None, IsSome, ◌||◌, is_some, nat_eq, nat_lt, slice_index}
 use Rattle.std.specs.Option.{option_map_or, option_copied, unwrap_or}
-use Rattle.std.specs.List.{sum_by, count_by, list_any}
+use Rattle.std.specs.List.{count_by}
 use Rattle.std.specs.Ordering.{nat_cmp, eq_by_cmp}
 use Rattle.std.specs.Cmp.{nat_cmp_total, nat_eq_equiv, unsigned_tied}
-use Rattle.std.proofs.lemmas.Bool.{cases_lt, le-ltb, lt-ltb, or_cases, eq-eqb, eqb-true}
-use Rattle.std.proofs.lemmas.List.{get_or_default}
+use Rattle.std.proofs.lemmas.Bool.{cases_lt, le-ltb, lt-ltb, or_cases, eqb-true}
 use Rattle.std.specs.FinMap as fin
 use Rattle.std.specs.FinMap.{get, get-empty, get-insert}
 use Rattle.std.specs.FinSet as set
-use Rattle.corten_base.specs.declared.calls.Reply.{Reply}
 use Rattle.corten_base.specs.declared.calls.Reply.TheVariants as reply
 use Rattle.table_place.specs.declared.Place.{Place}
 use Rattle.table_place.specs.Place.{place_cmp, root, above}
 use Rattle.page_map.specs.declared.cell.Cell.{Cell}
 use Rattle.page_map.specs.Cell.{frame_of, slot_of}
-use Rattle.page_map.specs.State.{State, AddressSpace, IsConsistent, linked, space_at, cell_at, is_present, carries, owners, frame_owners, slot_owners}
-use Rattle.page_map.specs.Tables.{Tables, need, changed_tables}
+use Rattle.page_map.specs.State.{State, AddressSpace, IsConsistent, linked, space_at, cell_at, carries, owners}
+use Rattle.page_map.specs.Tables.{Tables, need}
 use Rattle.page_map.proofs.Steps.{not_none}
 use Rattle.page_map.proofs.Owners.{same_some}
 use Rattle.page_map.proofs.Weights.{weight_insert}
@@ -27,7 +25,7 @@ use Rattle.page_map.proofs.Growth.{is_wanted, grown_len, all_stay}
 use Rattle.page_map.proofs.Above.{any_append}
 use Rattle.plain_counts.specs.Levels.{is_elsewhere}
 use Rattle.plain_counts.specs.Fronts.{AreFull}
-use Rattle.plain_spaces.specs.Copies.{AreLow, IsRoomy, JoinsAll, IsNewTo, tables_above, new_tables}
+use Rattle.plain_spaces.specs.Copies.{IsRoomy, JoinsAll, IsNewTo, tables_above, new_tables}
 use Rattle.plain_spaces.specs.Reach.{carried, IsCounted}
 use Rattle.plain_spaces.proofs.NewTables.{others_stay, none_lost, above_mine, root_mine}
 use Rattle.mm_model.specs.Placing.{tables_lack}

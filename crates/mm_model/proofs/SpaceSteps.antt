@@ -1,9 +1,9 @@
 -- The step of a call that makes a space or removes one.
-use Rattle.std.proofs.Common.{◌≡◌, ℕ, ◌+◌, ◌-◌, ◌*◌, ◌<◌, ◌≤◌, ◌^◌, Bool, true, false, cond, not, List, [], ◌∷◌, length, refl, sym, ap, subst, ◌∙◌, arith}
+use Rattle.std.proofs.Common.{◌≡◌, ℕ, ◌+◌, ◌<◌, ◌≤◌, ◌^◌, true, false, cond, not, [], ◌∷◌, length, refl, sym, ap, subst, ◌∙◌, arith}
 use mathlib.Core.Bool.{true≢false}
-use Rattle.std.specs.Prelude.{Option, Some, None, IsSome, Result, Ok, Err, IfOk, is_some, map, nat_eq, nat_le, nat_lt, min, slice_index}
+use Rattle.std.specs.Prelude.{Option, Some, None, Result, Ok, Err, IfOk, is_some, map, nat_le, nat_lt}
 use Rattle.std.specs.Option.{option_or, option_map_or, unwrap_or}
-use Rattle.std.specs.List.{sum_by, count_by, flat_map}
+use Rattle.std.specs.List.{count_by}
 use Rattle.std.specs.Ordering.{nat_cmp}
 use Rattle.std.proofs.lemmas.Bool.{le-ltb, ltb-true, and_parts}
 use Rattle.std.specs.FinMap as fin
@@ -14,12 +14,11 @@ use Rattle.corten_base.specs.declared.calls.Call.TheVariants as call
 use Rattle.corten_base.specs.declared.calls.Reply.{Reply}
 use Rattle.corten_base.specs.declared.calls.Reply.TheVariants as reply
 use Rattle.table_place.specs.declared.Place.{Place}
-use Rattle.table_place.specs.Place.{root, above}
+use Rattle.table_place.specs.Place.{root}
 use Rattle.page_map.specs.declared.cell.Cell.{Cell}
 use Rattle.page_map.specs.Cell.{frame_of, slot_of}
 use Rattle.page_map.specs.Spaces.{least_absent}
-use Rattle.page_map.specs.State.{State, AddressSpace, IsConsistent, SharersAgree, linked, is_present, space_at, cell_at, carries, owners, frame_owners, slot_owners, unused_frames, unused_slots}
-use Rattle.page_map.specs.Tables.{Tables, need, changed_tables}
+use Rattle.page_map.specs.State.{State, AddressSpace, IsConsistent, SharersAgree, is_present, space_at, carries, owners, unused_frames, unused_slots}
 use Rattle.page_map.specs.Effect.{wanted_tables, is_given_up, spaces_after, state_after, answer}
 use Rattle.page_map.specs.Step.{step, refusal, first_refusal, refused_unless, arguments, no_space, no_spaces, no_place, pages, no_tables, no_frames, no_swap}
 use Rattle.page_map.proofs.Evaluate.{entries_empty}
