@@ -1,5 +1,5 @@
 //! Lists of bytes.
-ghost use Rattle.std.specs.Prelude.{◌≡◌, ◌+◌, ◌≤◌, length, IfOk, nat_eq};
+ghost use Rattle.std.specs.Prelude.{◌≡◌, ◌+◌, ◌≤◌, length, vec_len, IfOk, nat_eq};
 ghost use Rattle.std.specs.Cmp.Lexicographic.{pointwise};
 ghost use Rattle.std.specs.Cmp.Rules.{comparing};
 ghost use Rattle.std.proofs.Common.{rules};
@@ -36,6 +36,14 @@ impl ByteList {
         Ok(ByteList {
             bytes: Vec::from_slice(alloc, bytes)?,
         })
+    }
+
+    /// These bytes. It takes no memory.
+    pub fn from_vec(bytes: Vec<u8>) -> ByteList
+        requires { vec_len bytes ≤ 4096 }
+        ensures { result ≡ bytes.items }
+    {
+        ByteList { bytes }
     }
 
     /// Writes bytes over those from a place on. It takes no memory.

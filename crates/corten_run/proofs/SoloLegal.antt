@@ -1,5 +1,7 @@
 -- The history that `solo` makes of a script is legal, and its accounts are right.
 use Rattle.std.proofs.Common.{◌≡◌, ℕ, ◌+◌, ◌<◌, ◌≤◌, List, [], ◌∷◌, ◌++◌, length, refl, sym, ap, subst, ◌∙◌, arith}
+use Rattle.std.specs.List.{All}
+use Rattle.std.proofs.lemmas.List.Elements.{All-nil, All-cons, All-head, All-tail, All-append}
 use Rattle.corten_base.specs.declared.calls.Call.{Call}
 use Rattle.corten_base.specs.declared.calls.Entry.{Entry}
 use Rattle.corten_base.specs.declared.calls.Reply.{Reply}
@@ -9,9 +11,12 @@ use Rattle.page_map.specs.History.{IsLegal, after, limbo_of}
 use Rattle.page_map.proofs.Start.{start_is_consistent}
 use Rattle.page_map.proofs.Histories.{legal_join, after_append}
 use Rattle.mm_script.specs.declared.script.Script.{Script}
+use Rattle.mm_script.specs.CallLine.{IsCall}
 use Rattle.mm_script.specs.ScriptText.{IsScript}
+use Rattle.history_text.specs.HistoryText.{IsAsked, HasText}
 use Rattle.history_text.specs.Checking.{AreRight, IsLegalHistory}
-use Rattle.history_text.proofs.Closings.{own_accounts}
+use Rattle.history_text.proofs.Closings.{own_accounts, closed_has_text}
+use Rattle.history_text.proofs.Reached.{history_entries}
 use Rattle.corten_run.specs.Solo.{answered, state_after_calls, all_answered, state_after_threads, solo_history}
 use Rattle.corten_run.proofs.Answering.{calls_keep}
 use Rattle.corten_run.proofs.Shown.{step_shows}
@@ -57,11 +62,35 @@ threads_keep st thread (cs ∷ ts) few ok = threads_keep (state_after_calls st t
 
 pub solo_is_legal : (script : Script) → IsScript script → IsLegalHistory (solo_history script)
 solo_is_legal script h =
-    let st : State = start script.limits [] in
-    let ok : IsConsistent st = start_is_consistent script.limits [] h.limits.tables.0 in
-    let few : 0 + length script.threads ≤ 8 = omega (arith, h.threads.count) in
+    let st : State = start script.limits script.shelf in
+    let ok : IsConsistent st = start_is_consistent script.limits script.shelf h.limits.tables.0 in
+    let few : 0 + length script.threads ≤ 8 = let count = h.threads.count in omega (arith, count.1) in
     record {
       entries = threads_legal st 0 script.threads few ok;
       accounts = subst (λ s. AreRight s (accounts (state_after_threads st 0 script.threads) 0)) (sym (threads_after st 0 script.threads))
           (own_accounts (state_after_threads st 0 script.threads) (threads_keep st 0 script.threads few ok));
     }
+
+-- the calls of each thread have lines
+calls_asked : (st : State) (thread : ℕ) (cs : List Call) → thread < 8 → All IsCall cs → All IsAsked (answered st thread cs)
+calls_asked st thread [] few h = All-nil IsAsked
+calls_asked st thread (c ∷ cs) few h =
+    All-cons IsAsked (record { thread = thread; call = c; reply = (step st thread c 0).0 }) (answered (step st thread c 0).1 thread cs)
+    (record { thread = (omega arith, omega (arith, few)); call = All-head IsCall c cs h }) (calls_asked (step st thread c 0).1 thread cs few (All-tail IsCall c cs h))
+
+threads_asked : (st : State) (thread : ℕ) (ts : List (List Call)) → thread + length ts ≤ 8 → All (All IsCall) ts → All IsAsked (all_answered st thread ts)
+threads_asked st thread [] few h = All-nil IsAsked
+threads_asked st thread (cs ∷ ts) few h =
+    All-append IsAsked (answered st thread cs) (all_answered (state_after_calls st thread cs) (thread + 1) ts)
+    (calls_asked st thread cs (omega (arith, few)) (All-head (All IsCall) cs ts h))
+    (threads_asked (state_after_calls st thread cs) (thread + 1) ts (omega (arith, few)) (All-tail (All IsCall) cs ts h))
+
+pub solo_has_text : (script : Script) → IsScript script → HasText (solo_history script)
+solo_has_text script h =
+    let st : State = start script.limits script.shelf in
+    let es : List Entry = all_answered st 0 script.threads in
+    let few : 0 + length script.threads ≤ 8 = let count = h.threads.count in omega (arith, count.1) in
+    let legal = solo_is_legal script h in
+    let entries = history_entries script.limits script.shelf es h.limits h.files (threads_asked st 0 script.threads few h.threads.calls) legal.entries in
+    subst (λ s. HasText (record { limits = script.limits; shelf = script.shelf; entries = es; accounts = accounts s 0 })) (threads_after st 0 script.threads)
+    (closed_has_text script.limits script.shelf es h.limits h.files entries)

@@ -31,13 +31,13 @@ state_after_threads st thread [] = st
 state_after_threads st thread (cs ∷ more) = state_after_threads (state_after_calls st thread cs) (thread + 1) more
 
 abbrev pub solo_entries : Script → List Entry
-solo_entries script = all_answered (start script.limits []) 0 script.threads
+solo_entries script = all_answered (start script.limits script.shelf) 0 script.threads
 
 abbrev pub solo_accounts : Script → Accounts
-solo_accounts script = accounts (state_after_threads (start script.limits []) 0 script.threads) 0
+solo_accounts script = accounts (state_after_threads (start script.limits script.shelf) 0 script.threads) 0
 
 abbrev pub solo_history : Script → History
-solo_history script = record { limits = script.limits; entries = solo_entries script; accounts = solo_accounts script }
+solo_history script = record { limits = script.limits; shelf = script.shelf; entries = solo_entries script; accounts = solo_accounts script }
 
 unfoldable pub solo_text : Script → List ℕ
 solo_text script = history_text (solo_history script)

@@ -87,7 +87,7 @@ fn answer_script<K: Sink>(alloc: Global, bytes: &[u8], sink: &mut K) -> Ending
     ensures write_fault { result ≡ Ending.WriteFailed → Rises (K.faults sink.old) (K.faults sink.new) }
 {
     match read_script(alloc, bytes) {
-        Ok(script) => match write_solo(alloc, &script, sink) {
+        Ok(script) => match write_solo(alloc, script, sink) {
             Written::Whole => Ending::Done,
             Written::Failed => Ending::WriteFailed,
             Written::NoMemory => Ending::NoMemory,

@@ -10,7 +10,6 @@ ghost use Rattle.history_text.specs.Outcomes.{GoesOn, IsWritten};
 ghost use Rattle.corten_run.specs.Solo.{answered, state_after_calls, all_answered, state_after_threads, solo_text};
 
 use corten_base::{Call, CallList, Sink};
-use file_shelf::Shelf;
 use history_text::{Written, push_header, write_accounts, write_entry};
 use mm_model::{Plain, StepFault};
 use mm_script::Script;
@@ -97,19 +96,24 @@ fn answer_threads<K: Sink>(
 }
 
 /// Runs a script on the plain machine and writes the text of its history.
-pub fn write_solo<K: Sink>(alloc: Global, script: &Script, sink: &mut K) -> Written
-    requires { IsScript script.now }
-    ensures written { IsWritten (K.held sink.old) (K.held sink.new) (K.faults sink.old) (K.faults sink.new) (solo_text script.now) result }
+pub fn write_solo<K: Sink>(alloc: Global, script: Script, sink: &mut K) -> Written
+    requires { IsScript script }
+    ensures written { IsWritten (K.held sink.old) (K.held sink.new) (K.faults sink.old) (K.faults sink.new) (solo_text script) result }
     ensures count { K.faults sink.old ≤ K.faults sink.new }
 {
-    let Ok(mut plain) = Plain::new(alloc, script.limits, Shelf::new(alloc)) else {
-        return Written::NoMemory;
-    };
+    let Script {
+        limits,
+        shelf,
+        threads,
+    } = script;
     let mut waiting = Vec::new(alloc);
-    let Ok(()) = push_header(&mut waiting, script.limits) else {
+    let Ok(()) = push_header(&mut waiting, limits, &shelf) else {
         return Written::NoMemory;
     };
-    match answer_threads(alloc, &mut plain, script.threads.list(), &mut waiting, sink) {
+    let Ok(mut plain) = Plain::new(alloc, limits, shelf) else {
+        return Written::NoMemory;
+    };
+    match answer_threads(alloc, &mut plain, threads.list(), &mut waiting, sink) {
         Written::Whole => write_accounts(&mut waiting, &plain.accounts(0), sink),
         Written::Failed => Written::Failed,
         Written::NoMemory => Written::NoMemory,

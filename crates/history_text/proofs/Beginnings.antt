@@ -1,25 +1,28 @@
 -- With which lines a history text begins.
-use Rattle.std.proofs.Common.{◌≡◌, ◌≢◌, ℕ, ◌≤◌, true, ltb, List, [], ◌∷◌, ◌++◌, map, codes, refl, sym, ap, subst, ◌∙◌, arith}
+use Rattle.std.proofs.Common.{◌≡◌, ◌≢◌, ℕ, ◌≤◌, true, ltb, List, [], ◌∷◌, ◌++◌, length, map, codes, refl, sym, ap, subst, ◌∙◌, arith}
 use Rattle.std.specs.List.{All, list_all}
-use Rattle.std.proofs.lemmas.List.{append-nil, append_assoc}
+use Rattle.std.proofs.lemmas.List.{append-nil, append_assoc, length-append}
 use Rattle.std.proofs.lemmas.List.Elements.{All-nil, All-head, All-tail}
 use Rattle.corten_base.specs.declared.calls.Entry.{Entry}
 use Rattle.corten_base.specs.declared.numbers.Limits.{Limits}
 use Rattle.text_words.specs.Layout.{joined, words_of}
 use Rattle.text_words.proofs.Grammars.{Begins-front, Begins-whole}
 use Rattle.mm_script.specs.CallLine.{IsWithin}
-use Rattle.mm_script.specs.ScriptText.{limit_words, limit_lines, AreLimits}
+use Rattle.mm_script.specs.ScriptText.{limit_words, limit_lines, file_lines, AreLimits, IsFile, AreFiles}
 use Rattle.history_text.specs.declared.history.History.{History}
 use Rattle.history_text.specs.declared.counts.Counts.{Counts}
 use Rattle.history_text.specs.Accounting.{version_line, header_lines, account_lines, counts_words, frames_line, swap_line, tables_line, frames_counts, swap_counts, tables_counts, AreCounts}
 use Rattle.history_text.specs.HistoryText.{entry_line, history_lines, IsEntry, HasText, AreHistoryLines, Begins}
 use Rattle.history_text.proofs.OneEntry.{entry_line_injective}
+use Rattle.history_text.specs.Files.{NoFileHere}
+use Rattle.history_text.proofs.Shelves.{FirstOther, body_first, frames_line_no_file, entry_line_no_file, files_go_on, same_files}
 use Rattle.history_text.proofs.CountLines.{IsNoEntry, frames_line_no_entry, no_counts_line, frames_names, swap_names, tables_names, words_of-limit}
 
 -- a history of these parts
-abbrev pub history_of : Limits → List Entry → Counts → Counts → Counts → History
-history_of limits entries f s t = record {
+abbrev pub history_of : Limits → List (List ℕ) → List Entry → Counts → Counts → Counts → History
+history_of limits files entries f s t = record {
   limits = limits;
+  shelf = files;
   entries = entries;
   accounts = record {
     frames = f.whole;
@@ -34,9 +37,11 @@ history_of limits entries f s t = record {
   };
 }
 
-pub HasText-of : (limits : Limits) (entries : List Entry) (f s t : Counts) → AreLimits limits → All IsEntry entries → AreCounts f → AreCounts s → AreCounts t → HasText (history_of limits entries f s t)
-HasText-of limits entries f s t hl he hf hs ht = record {
+pub HasText-of : (limits : Limits) (files : List (List ℕ)) (entries : List Entry) (f s t : Counts) → AreLimits limits → AreFiles files → All IsEntry entries → AreCounts f → AreCounts s → AreCounts t
+    → HasText (history_of limits files entries f s t)
+HasText-of limits files entries f s t hl hfs he hf hs ht = record {
   limits = hl;
+  files = hfs;
   entries = he;
   accounts = record { frames = hf; swap = hs; tables = ht };
 }
@@ -55,11 +60,14 @@ no_counts_are = record { whole = omega arith; second = omega arith; third = omeg
 abbrev limits_of : ℕ → ℕ → ℕ → Limits
 limits_of frames tables swap = record { frames = frames; tables = tables; swap = swap }
 
+no_files_are : AreFiles []
+no_files_are = record { count = omega arith; each = All-nil IsFile }
+
 abbrev empty : Limits → History
-empty limits = history_of limits [] no_counts no_counts no_counts
+empty limits = history_of limits [] [] no_counts no_counts no_counts
 
 empty_has_text : (limits : Limits) → AreLimits limits → HasText (empty limits)
-empty_has_text limits h = HasText-of limits [] no_counts no_counts no_counts h (All-nil IsEntry) no_counts_are no_counts_are no_counts_are
+empty_has_text limits h = HasText-of limits [] [] no_counts no_counts no_counts h no_files_are (All-nil IsEntry) no_counts_are no_counts_are no_counts_are
 
 least_limits : AreLimits (limits_of 1 1 0)
 least_limits = record { frames = (omega arith, omega arith); tables = (omega arith, omega arith); swap = (omega arith, omega arith) }
@@ -82,34 +90,33 @@ Begins-tables f t hf ht =
     (version_line ∷ joined (limit_words (codes "frames") f) ∷ joined (limit_words (codes "tables") t) ∷ [])
     (joined (limit_words (codes "swap") 0) ∷ account_lines (empty (limits_of f t 0)).accounts) refl
 
-pub Begins-entries : (limits : Limits) (es : List Entry) → AreLimits limits → All IsEntry es → Begins (header_lines limits ++ map entry_line es)
-Begins-entries limits es hl he =
-    let h : History = history_of limits es no_counts no_counts no_counts in
-    front_begins h (HasText-of limits es no_counts no_counts no_counts hl he no_counts_are no_counts_are no_counts_are)
-    (header_lines limits ++ map entry_line es) (account_lines h.accounts) (sym (append_assoc (header_lines limits) (map entry_line es) (account_lines h.accounts)))
+pub Begins-entries : (limits : Limits) (fs : List (List ℕ)) (es : List Entry) → AreLimits limits → AreFiles fs → All IsEntry es → Begins (header_lines limits fs ++ map entry_line es)
+Begins-entries limits fs es hl hfs he =
+    let h : History = history_of limits fs es no_counts no_counts no_counts in
+    front_begins h (HasText-of limits fs es no_counts no_counts no_counts hl hfs he no_counts_are no_counts_are no_counts_are)
+    (header_lines limits fs ++ map entry_line es) (account_lines h.accounts) (sym (append_assoc (header_lines limits fs) (map entry_line es) (account_lines h.accounts)))
 
 -- the lines behind a header, which go on with others
-pub behind_header : (limits : Limits) (m xs ys : List (List ℕ)) → (header_lines limits ++ (m ++ xs)) ++ ys ≡ header_lines limits ++ (m ++ (xs ++ ys))
-behind_header limits m xs ys = append_assoc (header_lines limits) (m ++ xs) ys ∙ ap (λ ls. header_lines limits ++ ls) (append_assoc m xs ys)
+pub behind_header : (limits : Limits) (fs m xs ys : List (List ℕ)) → (header_lines limits fs ++ (m ++ xs)) ++ ys ≡ header_lines limits fs ++ (m ++ (xs ++ ys))
+behind_header limits fs m xs ys = append_assoc (header_lines limits fs) (m ++ xs) ys ∙ ap (λ ls. header_lines limits fs ++ ls) (append_assoc m xs ys)
 
 -- some first lines of the accounts
-pub Begins-accounts : (limits : Limits) (es : List Entry) (f s t : Counts) (xs ys : List (List ℕ)) → AreLimits limits → All IsEntry es → AreCounts f → AreCounts s → AreCounts t
-    → xs ++ ys ≡ frames_line f ∷ swap_line s ∷ tables_line t ∷ [] → Begins (header_lines limits ++ (map entry_line es ++ xs))
-Begins-accounts limits es f s t xs ys hl he hf hs ht parted =
-    let h : History = history_of limits es f s t in
-    front_begins h (HasText-of limits es f s t hl he hf hs ht) (header_lines limits ++ (map entry_line es ++ xs)) ys
-    (ap (λ ls. header_lines limits ++ (map entry_line es ++ ls)) (sym parted) ∙ sym (behind_header limits (map entry_line es) xs ys))
+module _ (limits : Limits) (fs : List (List ℕ)) (es : List Entry) (hl : AreLimits limits) (hfs : AreFiles fs) (he : All IsEntry es) where
+  pub Begins-accounts : (f s t : Counts) (xs ys : List (List ℕ)) → AreCounts f → AreCounts s → AreCounts t → xs ++ ys ≡ frames_line f ∷ swap_line s ∷ tables_line t ∷ []
+      → Begins (header_lines limits fs ++ (map entry_line es ++ xs))
+  Begins-accounts f s t xs ys hf hs ht parted =
+      let h : History = history_of limits fs es f s t in
+      front_begins h (HasText-of limits fs es f s t hl hfs he hf hs ht) (header_lines limits fs ++ (map entry_line es ++ xs)) ys
+      (ap (λ ls. header_lines limits fs ++ (map entry_line es ++ ls)) (sym parted) ∙ sym (behind_header limits fs (map entry_line es) xs ys))
 
-pub Begins-frames_line : (limits : Limits) (es : List Entry) (f : Counts) → AreLimits limits → All IsEntry es → AreCounts f → Begins (header_lines limits ++ (map entry_line es ++ frames_line f ∷ []))
-Begins-frames_line limits es f hl he hf =
-    Begins-accounts limits es f no_counts no_counts (frames_line f ∷ []) (swap_line no_counts ∷ tables_line no_counts ∷ []) hl he hf no_counts_are no_counts_are refl
+  pub Begins-frames_line : (f : Counts) → AreCounts f → Begins (header_lines limits fs ++ (map entry_line es ++ frames_line f ∷ []))
+  Begins-frames_line f hf = Begins-accounts f no_counts no_counts (frames_line f ∷ []) (swap_line no_counts ∷ tables_line no_counts ∷ []) hf no_counts_are no_counts_are refl
 
-pub Begins-swap_line : (limits : Limits) (es : List Entry) (f s : Counts) → AreLimits limits → All IsEntry es → AreCounts f → AreCounts s → Begins (header_lines limits ++ (map entry_line es ++ frames_line f ∷ swap_line s ∷ []))
-Begins-swap_line limits es f s hl he hf hs =
-    Begins-accounts limits es f s no_counts (frames_line f ∷ swap_line s ∷ []) (tables_line no_counts ∷ []) hl he hf hs no_counts_are refl
+  pub Begins-swap_line : (f s : Counts) → AreCounts f → AreCounts s → Begins (header_lines limits fs ++ (map entry_line es ++ frames_line f ∷ swap_line s ∷ []))
+  Begins-swap_line f s hf hs = Begins-accounts f s no_counts (frames_line f ∷ swap_line s ∷ []) (tables_line no_counts ∷ []) hf hs no_counts_are refl
 
-pub Begins-tables_line : (limits : Limits) (es : List Entry) (f s t : Counts) → AreLimits limits → All IsEntry es → AreCounts f → AreCounts s → AreCounts t → Begins (header_lines limits ++ (map entry_line es ++ frames_line f ∷ swap_line s ∷ tables_line t ∷ []))
-Begins-tables_line limits es f s t hl he hf hs ht = Begins-accounts limits es f s t (frames_line f ∷ swap_line s ∷ tables_line t ∷ []) [] hl he hf hs ht refl
+  pub Begins-tables_line : (f s t : Counts) → AreCounts f → AreCounts s → AreCounts t → Begins (header_lines limits fs ++ (map entry_line es ++ frames_line f ∷ swap_line s ∷ tables_line t ∷ []))
+  Begins-tables_line f s t hf hs ht = Begins-accounts f s t (frames_line f ∷ swap_line s ∷ tables_line t ∷ []) [] hf hs ht refl
 
 -- Entries, and lines behind them, are those of entries and an account line: then the second entries go on from the first.
 pub record GoesOn (es es' : List Entry) (xs : List (List ℕ)) (line : List ℕ) (ys : List (List ℕ)) : Type 0 where
@@ -140,9 +147,9 @@ nothing_behind : (es : List Entry) (last : List ℕ) (ys : List (List ℕ)) → 
 nothing_behind [] last ys same = cc
 nothing_behind (e ∷ es) last ys same = cc
 
--- what stands behind two headers
-pub headers : (a b : Limits) (x y : List (List ℕ)) → header_lines a ++ x ≡ header_lines b ++ y → x ≡ y
-headers a b x y same = cc
+-- what stands behind the limits of two headers
+pub headers : (a b : Limits) (fs gs x y : List (List ℕ)) → header_lines a fs ++ x ≡ header_lines b gs ++ y → file_lines fs ++ x ≡ file_lines gs ++ y
+headers a b fs gs x y same = cc
 
 -- what begins no history text
 pub no_version : (line : List ℕ) → line ≢ version_line → ¬ (Begins ([] ++ line ∷ []))
@@ -166,71 +173,113 @@ no_swap first second line none b =
     let are = b.goes_on.are in
     no_limit line (codes "swap") b.goes_on.history.limits.swap 0 4096 refl (omega arith) b.goes_on.has_text.limits.swap none (cc are)
 
--- the entries of a text that goes on behind a header and some entries
-pub behind_entries : (limits : Limits) (es : List Entry) (xs : List (List ℕ)) (h : History) → HasText h → All IsEntry es → header_lines limits ++ (map entry_line es ++ xs) ≡ history_lines h
-    → GoesOn es h.entries xs (frames_line (frames_counts h.accounts)) (swap_line (swap_counts h.accounts) ∷ tables_line (tables_counts h.accounts) ∷ [])
-behind_entries limits es xs h has he same =
-    entries_go_on es h.entries xs (frames_line (frames_counts h.accounts)) (swap_line (swap_counts h.accounts) ∷ tables_line (tables_counts h.accounts) ∷ []) he has.entries
-    (frames_line_no_entry (frames_counts h.accounts) has.accounts.frames)
-    (headers limits h.limits (map entry_line es ++ xs) (map entry_line h.entries ++ account_lines h.accounts) same)
+-- the first line of a history behind its files
+history_first : (h : History) → HasText h → FirstOther (map entry_line h.entries ++ account_lines h.accounts)
+history_first h has =
+    body_first h.entries (frames_line (frames_counts h.accounts)) (swap_line (swap_counts h.accounts) ∷ tables_line (tables_counts h.accounts) ∷ []) has.entries
+    (frames_line_no_file (frames_counts h.accounts) has.accounts.frames)
 
--- a line that is neither an entry's nor the frames'
-pub no_body : (limits : Limits) (es : List Entry) (line : List ℕ) → All IsEntry es → IsNoEntry line → ((c : Counts) → AreCounts c → words_of line ≢ counts_words (codes "frames") (codes "free") (codes "mapped") c)
-    → ¬ (Begins ((header_lines limits ++ map entry_line es) ++ line ∷ []))
-no_body limits es line he none no_frames b =
+module _ (limits : Limits) (fs : List (List ℕ)) (es : List Entry) (hfs : AreFiles fs) (he : All IsEntry es) where
+  -- the files and the entries of a text that goes on behind a header and some entries
+  pub record GoesOnBehind (xs : List (List ℕ)) (h : History) : Type 0 where
+    pub files : fs ≡ h.shelf
+    pub entries : GoesOn es h.entries xs (frames_line (frames_counts h.accounts)) (swap_line (swap_counts h.accounts) ∷ tables_line (tables_counts h.accounts) ∷ [])
+
+  behind_same : (xs : List (List ℕ)) (h : History) → HasText h → fs ≡ h.shelf → map entry_line es ++ xs ≡ map entry_line h.entries ++ account_lines h.accounts → GoesOnBehind xs h
+  behind_same xs h has files same = record {
+    files = files;
+    entries = entries_go_on es h.entries xs (frames_line (frames_counts h.accounts)) (swap_line (swap_counts h.accounts) ∷ tables_line (tables_counts h.accounts) ∷ []) he has.entries
+        (frames_line_no_entry (frames_counts h.accounts) has.accounts.frames) same;
+  }
+
+  pub behind_entries : (xs : List (List ℕ)) (h : History) → HasText h → FirstOther (map entry_line es ++ xs) → header_lines limits fs ++ (map entry_line es ++ xs) ≡ history_lines h → GoesOnBehind xs h
+  behind_entries xs h has first same =
+      let both = same_files fs h.shelf (map entry_line es ++ xs) (map entry_line h.entries ++ account_lines h.accounts) hfs.each has.files.each first (history_first h has)
+      (headers limits h.limits fs h.shelf (map entry_line es ++ xs) (map entry_line h.entries ++ account_lines h.accounts) same) in
+      behind_same xs h has both.files both.rest
+
+-- behind entries, or where there are as many files as may be, no file's line goes on
+no_more_files : (fs more : List (List ℕ)) (es : List Entry) (line : List ℕ) (xs ys : List (List ℕ)) → All IsEntry es → NoFileHere fs es line → length (fs ++ more) ≤ 16 → All IsFile more
+    → map entry_line es ++ line ∷ xs ≡ file_lines more ++ ys → more ≡ []
+no_more_files fs [] es line xs ys he none few hm same = refl
+no_more_files fs (m ∷ more) (e ∷ es) line xs ys he none few hm same = absurd (entry_line_no_file e (All-head IsEntry e es he) m (All-head IsFile m more hm) (cc))
+no_more_files fs (m ∷ more) [] line xs ys he (NoFileHere.full many) few hm same = let long = length-append fs (m ∷ more) in absurd (omega (arith, long, many, few))
+no_more_files fs (m ∷ more) [] line xs ys he (NoFileHere.late some) few hm same = absurd (some refl)
+no_more_files fs (m ∷ more) [] line xs ys he (NoFileHere.other none) few hm same = absurd (none m (All-head IsFile m more hm) (cc))
+
+-- a line that is neither a file's, where one may come, nor an entry's nor the frames'
+pub no_body : (limits : Limits) (fs : List (List ℕ)) (es : List Entry) (line : List ℕ) → AreFiles fs → All IsEntry es → NoFileHere fs es line → IsNoEntry line
+    → ((c : Counts) → AreCounts c → words_of line ≢ counts_words (codes "frames") (codes "free") (codes "mapped") c) → ¬ (Begins ((header_lines limits fs ++ map entry_line es) ++ line ∷ []))
+no_body limits fs es line hfs he no_file none no_frames b =
     let h : History = b.goes_on.history in
-    let shape : header_lines limits ++ (map entry_line es ++ line ∷ b.more) ≡ ((header_lines limits ++ map entry_line es) ++ line ∷ []) ++ b.more =
-    sym (append_assoc (header_lines limits ++ map entry_line es) (line ∷ []) b.more ∙ append_assoc (header_lines limits) (map entry_line es) (line ∷ b.more)) in
-    let on = behind_entries limits es (line ∷ b.more) h b.goes_on.has_text he (shape ∙ b.goes_on.are) in
+    let has = b.goes_on.has_text in
+    let shape : header_lines limits fs ++ (map entry_line es ++ line ∷ b.more) ≡ ((header_lines limits fs ++ map entry_line es) ++ line ∷ []) ++ b.more =
+    sym (append_assoc (header_lines limits fs ++ map entry_line es) (line ∷ []) b.more ∙ append_assoc (header_lines limits fs) (map entry_line es) (line ∷ b.more)) in
+    let files = files_go_on fs h.shelf (map entry_line es ++ line ∷ b.more) (map entry_line h.entries ++ account_lines h.accounts) hfs.each has.files.each (history_first h has)
+    (headers limits h.limits fs h.shelf (map entry_line es ++ line ∷ b.more) (map entry_line h.entries ++ account_lines h.accounts) (shape ∙ b.goes_on.are)) in
+    let few : length (fs ++ files.more) ≤ 16 = subst (λ l. length l ≤ 16) files.files has.files.count in
+    let no_more = no_more_files fs files.more es line b.more (map entry_line h.entries ++ account_lines h.accounts) he no_file few files.are_files files.rest in
+    let same_shelf : fs ≡ h.shelf = sym (files.files ∙ ap (λ m. fs ++ m) no_more ∙ append-nil fs) in
+    let on = (behind_same limits fs es hfs he (line ∷ b.more) h has same_shelf (files.rest ∙ ap (λ m. file_lines m ++ (map entry_line h.entries ++ account_lines h.accounts)) no_more)).entries in
     elim (first_behind line b.more on.more _ _ on.are_entries on.rest) [
       | FirstBehind.entry e others goes is_entry is ↦ none e is_entry is
-      | FirstBehind.account empty is rest ↦ no_counts_line line (codes "frames") (codes "free") (codes "mapped") frames_names no_frames (frames_counts h.accounts) b.goes_on.has_text.accounts.frames is
+      | FirstBehind.account empty is rest ↦ no_counts_line line (codes "frames") (codes "free") (codes "mapped") frames_names no_frames (frames_counts h.accounts) has.accounts.frames is
     ]
 
 -- the account lines behind the line of frames are the text's last ones
-pub record LastLines (es : List Entry) (xs : List (List ℕ)) (f : Counts) (h : History) : Type 0 where
+pub record LastLines (fs : List (List ℕ)) (es : List Entry) (xs : List (List ℕ)) (f : Counts) (h : History) : Type 0 where
+  pub files : fs ≡ h.shelf
   pub entries : es ≡ h.entries
   pub frames : frames_line f ≡ frames_line (frames_counts h.accounts)
   pub others : xs ≡ swap_line (swap_counts h.accounts) ∷ tables_line (tables_counts h.accounts) ∷ []
 
-pub last_lines : (limits : Limits) (es : List Entry) (f : Counts) (xs : List (List ℕ)) (h : History) → HasText h → All IsEntry es → AreCounts f → header_lines limits ++ (map entry_line es ++ frames_line f ∷ xs) ≡ history_lines h → LastLines es xs f h
-last_lines limits es f xs h has he hf same =
-    let on = behind_entries limits es (frames_line f ∷ xs) h has he same in
-    elim (first_behind (frames_line f) xs on.more _ _ on.are_entries on.rest) [
-      | FirstBehind.entry e others goes is_entry is ↦ absurd (frames_line_no_entry f hf e is_entry is)
-      | FirstBehind.account empty is rest ↦ record {
-        entries = sym (on.entries ∙ ap (λ m. es ++ m) empty ∙ append-nil es);
-        frames = is;
-        others = rest;
-      }
-    ]
+module _ (limits : Limits) (fs : List (List ℕ)) (es : List Entry) (f : Counts) (hfs : AreFiles fs) (he : All IsEntry es) (hf : AreCounts f) where
+  pub last_lines : (xs : List (List ℕ)) (h : History) → HasText h → header_lines limits fs ++ (map entry_line es ++ frames_line f ∷ xs) ≡ history_lines h → LastLines fs es xs f h
+  last_lines xs h has same =
+      let both = behind_entries limits fs es hfs he (frames_line f ∷ xs) h has (body_first es (frames_line f) xs he (frames_line_no_file f hf)) same in
+      let on = both.entries in
+      elim (first_behind (frames_line f) xs on.more _ _ on.are_entries on.rest) [
+        | FirstBehind.entry e others goes is_entry is ↦ absurd (frames_line_no_entry f hf e is_entry is)
+        | FirstBehind.account empty is rest ↦ record {
+          files = both.files;
+          entries = sym (on.entries ∙ ap (λ m. es ++ m) empty ∙ append-nil es);
+          frames = is;
+          others = rest;
+        }
+      ]
 
--- the lines of a text that goes on behind the line of frames
-pub after_frames : (limits : Limits) (es : List Entry) (f : Counts) (xs ys : List (List ℕ)) → All IsEntry es → AreCounts f → (b : Begins ((header_lines limits ++ (map entry_line es ++ frames_line f ∷ xs)) ++ ys)) → LastLines es ((xs ++ ys) ++ b.more) f b.goes_on.history
-after_frames limits es f xs ys he hf b =
-    let first : (header_lines limits ++ (map entry_line es ++ frames_line f ∷ xs)) ++ ys ≡ header_lines limits ++ (map entry_line es ++ frames_line f ∷ (xs ++ ys)) =
-    behind_header limits (map entry_line es) (frames_line f ∷ xs) ys in
-    let whole : header_lines limits ++ (map entry_line es ++ frames_line f ∷ ((xs ++ ys) ++ b.more)) ≡ ((header_lines limits ++ (map entry_line es ++ frames_line f ∷ xs)) ++ ys) ++ b.more =
-    sym (ap (λ ls. ls ++ b.more) first ∙ behind_header limits (map entry_line es) (frames_line f ∷ (xs ++ ys)) b.more) in
-    last_lines limits es f ((xs ++ ys) ++ b.more) b.goes_on.history b.goes_on.has_text he hf (whole ∙ b.goes_on.are)
+  -- the lines of a text that goes on behind the line of frames
+  after_frames : (xs ys : List (List ℕ)) → (b : Begins ((header_lines limits fs ++ (map entry_line es ++ frames_line f ∷ xs)) ++ ys)) → LastLines fs es ((xs ++ ys) ++ b.more) f b.goes_on.history
+  after_frames xs ys b =
+      let first : (header_lines limits fs ++ (map entry_line es ++ frames_line f ∷ xs)) ++ ys ≡ header_lines limits fs ++ (map entry_line es ++ frames_line f ∷ (xs ++ ys)) =
+      behind_header limits fs (map entry_line es) (frames_line f ∷ xs) ys in
+      let whole : header_lines limits fs ++ (map entry_line es ++ frames_line f ∷ ((xs ++ ys) ++ b.more)) ≡ ((header_lines limits fs ++ (map entry_line es ++ frames_line f ∷ xs)) ++ ys) ++ b.more =
+      sym (ap (λ ls. ls ++ b.more) first ∙ behind_header limits fs (map entry_line es) (frames_line f ∷ (xs ++ ys)) b.more) in
+      last_lines ((xs ++ ys) ++ b.more) b.goes_on.history b.goes_on.has_text (whole ∙ b.goes_on.are)
 
-pub no_swap_line : (limits : Limits) (es : List Entry) (f : Counts) (line : List ℕ) → All IsEntry es → AreCounts f → ((c : Counts) → AreCounts c → words_of line ≢ counts_words (codes "swap") (codes "free") (codes "used") c)
-    → ¬ (Begins ((header_lines limits ++ (map entry_line es ++ frames_line f ∷ [])) ++ line ∷ []))
-no_swap_line limits es f line he hf none b =
-    let others = (after_frames limits es f [] (line ∷ []) he hf b).others in
-    no_counts_line line (codes "swap") (codes "free") (codes "used") swap_names none (swap_counts b.goes_on.history.accounts) b.goes_on.has_text.accounts.swap (cc others)
+  pub no_swap_line : (line : List ℕ) → ((c : Counts) → AreCounts c → words_of line ≢ counts_words (codes "swap") (codes "free") (codes "used") c)
+      → ¬ (Begins ((header_lines limits fs ++ (map entry_line es ++ frames_line f ∷ [])) ++ line ∷ []))
+  no_swap_line line none b =
+      let others = (after_frames [] (line ∷ []) b).others in
+      no_counts_line line (codes "swap") (codes "free") (codes "used") swap_names none (swap_counts b.goes_on.history.accounts) b.goes_on.has_text.accounts.swap (cc others)
 
-pub no_tables_line : (limits : Limits) (es : List Entry) (f s : Counts) (line : List ℕ) → All IsEntry es → AreCounts f → ((c : Counts) → AreCounts c → words_of line ≢ counts_words (codes "tables") (codes "linked") (codes "limbo") c)
-    → ¬ (Begins ((header_lines limits ++ (map entry_line es ++ frames_line f ∷ swap_line s ∷ [])) ++ line ∷ []))
-no_tables_line limits es f s line he hf none b =
-    let others = (after_frames limits es f (swap_line s ∷ []) (line ∷ []) he hf b).others in
-    no_counts_line line (codes "tables") (codes "linked") (codes "limbo") tables_names none (tables_counts b.goes_on.history.accounts) b.goes_on.has_text.accounts.tables (cc others)
+  pub no_tables_line : (s : Counts) (line : List ℕ) → ((c : Counts) → AreCounts c → words_of line ≢ counts_words (codes "tables") (codes "linked") (codes "limbo") c)
+      → ¬ (Begins ((header_lines limits fs ++ (map entry_line es ++ frames_line f ∷ swap_line s ∷ [])) ++ line ∷ []))
+  no_tables_line s line none b =
+      let others = (after_frames (swap_line s ∷ []) (line ∷ []) b).others in
+      no_counts_line line (codes "tables") (codes "linked") (codes "limbo") tables_names none (tables_counts b.goes_on.history.accounts) b.goes_on.has_text.accounts.tables (cc others)
 
-pub no_more : (limits : Limits) (es : List Entry) (f s t : Counts) (line : List ℕ) → All IsEntry es → AreCounts f → ¬ (Begins ((header_lines limits ++ (map entry_line es ++ frames_line f ∷ swap_line s ∷ tables_line t ∷ [])) ++ line ∷ []))
-no_more limits es f s t line he hf b = too_many line b.more (after_frames limits es f (swap_line s ∷ tables_line t ∷ []) (line ∷ []) he hf b).others
-  where
-    too_many : {a c d e : List ℕ} (l : List ℕ) (xs : List (List ℕ)) → a ∷ c ∷ l ∷ xs ≡ d ∷ e ∷ [] → ⊥
-    too_many l xs same = cc
+  pub no_more : (s t : Counts) (line : List ℕ) → ¬ (Begins ((header_lines limits fs ++ (map entry_line es ++ frames_line f ∷ swap_line s ∷ tables_line t ∷ [])) ++ line ∷ []))
+  no_more s t line b = too_many line b.more (after_frames (swap_line s ∷ tables_line t ∷ []) (line ∷ []) b).others
+    where
+      too_many : {a c d e : List ℕ} (l : List ℕ) (xs : List (List ℕ)) → a ∷ c ∷ l ∷ xs ≡ d ∷ e ∷ [] → ⊥
+      too_many l xs same = cc
+
+  pub wants_swap_line : ¬ (AreHistoryLines (header_lines limits fs ++ (map entry_line es ++ frames_line f ∷ [])))
+  wants_swap_line h = let others = (last_lines [] h.history h.has_text h.are).others in cc others
+
+  pub wants_tables_line : (s : Counts) → ¬ (AreHistoryLines (header_lines limits fs ++ (map entry_line es ++ frames_line f ∷ swap_line s ∷ [])))
+  wants_tables_line s h = let others = (last_lines (swap_line s ∷ []) h.history h.has_text h.are).others in cc others
 
 -- lines that are not all of a history text
 pub wants_version : ¬ (AreHistoryLines [])
@@ -245,14 +294,20 @@ wants_tables first h = let are = h.are in cc are
 pub wants_swap : (first second : List ℕ) → ¬ (AreHistoryLines (version_line ∷ first ∷ second ∷ []))
 wants_swap first second h = let are = h.are in cc are
 
-pub wants_accounts : (limits : Limits) (es : List Entry) → All IsEntry es → ¬ (AreHistoryLines (header_lines limits ++ map entry_line es))
-wants_accounts limits es he h =
-    let shape : header_lines limits ++ (map entry_line es ++ []) ≡ header_lines limits ++ map entry_line es = ap (λ ls. header_lines limits ++ ls) (append-nil (map entry_line es)) in
-    let on = behind_entries limits es [] h.history h.has_text he (shape ∙ h.are) in
+-- entries' lines alone are not the lines of files and a body
+no_more_after : (more : List (List ℕ)) (es : List Entry) (ys : List (List ℕ)) → All IsEntry es → All IsFile more → map entry_line es ≡ file_lines more ++ ys → more ≡ []
+no_more_after [] es ys he hm same = refl
+no_more_after (m ∷ more) [] ys he hm same = absurd (cc same)
+no_more_after (m ∷ more) (e ∷ es) ys he hm same = absurd (entry_line_no_file e (All-head IsEntry e es he) m (All-head IsFile m more hm) (cc))
+
+pub wants_accounts : (limits : Limits) (fs : List (List ℕ)) (es : List Entry) → AreFiles fs → All IsEntry es → ¬ (AreHistoryLines (header_lines limits fs ++ map entry_line es))
+wants_accounts limits fs es hfs he g =
+    let h : History = g.history in
+    let has = g.has_text in
+    let body : List (List ℕ) = map entry_line h.entries ++ account_lines h.accounts in
+    let files = files_go_on fs h.shelf (map entry_line es) body hfs.each has.files.each (history_first h has) (headers limits h.limits fs h.shelf (map entry_line es) body g.are) in
+    let none = no_more_after files.more es body he files.are_files files.rest in
+    let same : map entry_line es ++ [] ≡ body = append-nil (map entry_line es) ∙ files.rest ∙ ap (λ m. file_lines m ++ body) none in
+    let on = entries_go_on es h.entries [] (frames_line (frames_counts h.accounts)) (swap_line (swap_counts h.accounts) ∷ tables_line (tables_counts h.accounts) ∷ []) he has.entries
+    (frames_line_no_entry (frames_counts h.accounts) has.accounts.frames) same in
     nothing_behind on.more _ _ on.rest
-
-pub wants_swap_line : (limits : Limits) (es : List Entry) (f : Counts) → All IsEntry es → AreCounts f → ¬ (AreHistoryLines (header_lines limits ++ (map entry_line es ++ frames_line f ∷ [])))
-wants_swap_line limits es f he hf h = let others = (last_lines limits es f [] h.history h.has_text he hf h.are).others in cc others
-
-pub wants_tables_line : (limits : Limits) (es : List Entry) (f s : Counts) → All IsEntry es → AreCounts f → ¬ (AreHistoryLines (header_lines limits ++ (map entry_line es ++ frames_line f ∷ swap_line s ∷ [])))
-wants_tables_line limits es f s he hf h = let others = (last_lines limits es f (swap_line s ∷ []) h.history h.has_text he hf h.are).others in cc others

@@ -17,7 +17,7 @@ use Rattle.page_map.proofs.Steps.{by_step}
 use Rattle.page_map.proofs.Start.{start_is_consistent}
 use Rattle.page_map.proofs.Bytewise.{keeps_along}
 use Rattle.page_map.proofs.Recalled.{each_of}
-use Rattle.mm_script.specs.ScriptText.{AreLimits}
+use Rattle.mm_script.specs.ScriptText.{AreLimits, AreFiles}
 use Rattle.history_text.specs.declared.history.History.{History}
 use Rattle.history_text.specs.Accounting.{frames_counts, swap_counts, AreAccounts}
 use Rattle.history_text.specs.HistoryText.{IsEntry, HasText}
@@ -25,7 +25,7 @@ use Rattle.history_text.specs.Checking.{AreRight, IsLegalHistory}
 use Rattle.history_text.specs.Wrong.{AreTablesRight}
 
 -- no step changes the limits
-step_limits : (st : State) (thread : ℕ) (c : Call) (limbo : ℕ) → (step st thread c limbo).1.limits ≡ st.limits
+pub step_limits : (st : State) (thread : ℕ) (c : Call) (limbo : ℕ) → (step st thread c limbo).1.limits ≡ st.limits
 unfolding state_after
 step_limits st thread c limbo = by_step (λ (s : State). s.limits ≡ st.limits) st thread c limbo refl (λ passed. refl)
 
@@ -33,23 +33,23 @@ after_limits : (st : State) (es : List Entry) → (after st es).limits ≡ st.li
 after_limits st [] = refl
 after_limits st (e ∷ es) = after_limits (entry_step st e).1 es ∙ step_limits st e.thread e.call (limbo_of e.reply)
 
-start_limits : (limits : Limits) → (start limits []).limits ≡ limits
+pub start_limits : (limits : Limits) (files : List (List ℕ)) → (start limits files).limits ≡ limits
 unfolding start
-start_limits limits = refl
+start_limits limits files = refl
 
 -- the state that a history's entries leave
-abbrev pub final : Limits → List Entry → State
-final limits es = after (start limits []) es
+abbrev pub final : Limits → List (List ℕ) → List Entry → State
+final limits files es = after (start limits files) es
 
-pub final_limits : (limits : Limits) (es : List Entry) → (final limits es).limits ≡ limits
-final_limits limits es = after_limits (start limits []) es ∙ start_limits limits
+pub final_limits : (limits : Limits) (files : List (List ℕ)) (es : List Entry) → (final limits files es).limits ≡ limits
+final_limits limits files es = after_limits (start limits files) es ∙ start_limits limits files
 
-pub final_is_consistent : (limits : Limits) (es : List Entry) → AreLimits limits → All IsEntry es → IsConsistent (final limits es)
-final_is_consistent limits es hl he =
-    keeps_along (start limits []) es (each_of (λ (e : Entry). e.thread < 8) es (All-weaker IsEntry (λ (e : Entry). e.thread < 8) (λ e h. omega (arith, h.thread.1)) es he))
-    (start_is_consistent limits [] hl.tables.0)
+pub final_is_consistent : (limits : Limits) (files : List (List ℕ)) (es : List Entry) → AreLimits limits → All IsEntry es → IsConsistent (final limits files es)
+final_is_consistent limits files es hl he =
+    keeps_along (start limits files) es (each_of (λ (e : Entry). e.thread < 8) es (All-weaker IsEntry (λ (e : Entry). e.thread < 8) (λ e h. omega (arith, h.thread.1)) es he))
+    (start_is_consistent limits files hl.tables.0)
 
-few_unused : (owners : ℕ → ℕ) (limit : ℕ) → length (unused owners limit) ≤ limit
+pub few_unused : (owners : ℕ → ℕ) (limit : ℕ) → length (unused owners limit) ≤ limit
 few_unused owners limit =
     let all : List ℕ = range_with_len 0 limit in
     let some = length-filter (λ n. nat_eq (owners n) 0) all in
@@ -70,22 +70,23 @@ accounts_fit st ok h =
     }
 
 -- a legal list of entries with the accounts that belong to it
-abbrev pub closed : Limits → List Entry → History
-closed limits es = record { limits = limits; entries = es; accounts = accounts (final limits es) 0 }
+abbrev pub closed : Limits → List (List ℕ) → List Entry → History
+closed limits files es = record { limits = limits; shelf = files; entries = es; accounts = accounts (final limits files es) 0 }
 
-pub closed_has_text : (limits : Limits) (es : List Entry) → AreLimits limits → All IsEntry es → HasText (closed limits es)
-closed_has_text limits es hl he = record {
+pub closed_has_text : (limits : Limits) (files : List (List ℕ)) (es : List Entry) → AreLimits limits → AreFiles files → All IsEntry es → HasText (closed limits files es)
+closed_has_text limits files es hl hfs he = record {
   limits = hl;
+  files = hfs;
   entries = he;
-  accounts = accounts_fit (final limits es) (final_is_consistent limits es hl he) (subst AreLimits (sym (final_limits limits es)) hl);
+  accounts = accounts_fit (final limits files es) (final_is_consistent limits files es hl he) (subst AreLimits (sym (final_limits limits files es)) hl);
 }
 
 pub own_accounts : (st : State) → IsConsistent st → AreRight st (accounts st 0)
 unfolding accounts
 own_accounts st ok = record { counts = refl; fits = let tables : linked st ≤ st.limits.tables = ok.tables in omega (arith, tables) }
 
-pub closed_is_legal : (limits : Limits) (es : List Entry) → AreLimits limits → All IsEntry es → IsHistory limits [] es → IsLegalHistory (closed limits es)
-closed_is_legal limits es hl he legal = record { entries = legal; accounts = own_accounts (final limits es) (final_is_consistent limits es hl he) }
+pub closed_is_legal : (limits : Limits) (files : List (List ℕ)) (es : List Entry) → AreLimits limits → All IsEntry es → IsHistory limits files es → IsLegalHistory (closed limits files es)
+closed_is_legal limits files es hl he legal = record { entries = legal; accounts = own_accounts (final limits files es) (final_is_consistent limits files es hl he) }
 
 -- accounts that are right line by line are right, and the other way round
 pub right_accounts : (st : State) (a : Accounts) → frames_counts a ≡ frames_counts (accounts st 0) → swap_counts a ≡ swap_counts (accounts st 0) → AreTablesRight st a → AreRight st a

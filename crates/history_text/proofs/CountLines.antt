@@ -11,7 +11,8 @@ use Rattle.text_words.specs.Spelling.{number}
 use Rattle.text_words.proofs.OneValue.{number_injective}
 use Rattle.text_words.proofs.SpelledBytes.{IsNoDigit, IsNoDigit-below, HasNo-number, HasNo-joined}
 use Rattle.text_words.proofs.WordLists.{joined-words_of, words_of-joined}
-use Rattle.mm_script.specs.ScriptText.{limit_words, AreLimits}
+use Rattle.mm_script.specs.ScriptText.{limit_words, file_line, file_lines, AreLimits, IsFile, AreFiles}
+use Rattle.mm_script.proofs.FileLines.{file_line_IsLine}
 use Rattle.mm_script.proofs.OneCall.{HasNo_letters}
 use Rattle.history_text.specs.declared.counts.Counts.{Counts}
 use Rattle.history_text.specs.Replies.{IsCount}
@@ -131,12 +132,17 @@ has_no byte (b ∷ bytes) h =
     let parts = and_parts (not (eqb b byte)) (list_all (λ c. not (eqb c byte)) bytes) h in
     All-cons (λ c. c ≢ byte) b bytes (λ same. false≢true (sym (ap not (eq-eqb b byte same)) ∙ parts.0)) (has_no byte bytes parts.1)
 
-pub header_are_lines : (limits : Limits) → AreLimits limits → All IsLine (header_lines limits)
-header_are_lines limits h =
+files_are_lines : (files : List (List ℕ)) → All IsFile files → All IsLine (file_lines files)
+files_are_lines [] h = All-nil IsLine
+files_are_lines (f ∷ files) h = All-cons IsLine (file_line f) (file_lines files) (file_line_IsLine f (All-head IsFile f files h)) (files_are_lines files (All-tail IsFile f files h))
+
+pub header_are_lines : (limits : Limits) (files : List (List ℕ)) → AreLimits limits → AreFiles files → All IsLine (header_lines limits files)
+header_are_lines limits files h hf =
     let frames : List ℕ = joined (limit_words (codes "frames") limits.frames) in
     let tables : List ℕ = joined (limit_words (codes "tables") limits.tables) in
     let swap : List ℕ = joined (limit_words (codes "swap") limits.swap) in
-    All-cons IsLine version_line (frames ∷ tables ∷ swap ∷ []) (has_no 10 version_line refl)
-    (All-cons IsLine frames (tables ∷ swap ∷ []) (limit_IsLine (codes "frames") limits.frames refl h.frames.1)
-    (All-cons IsLine tables (swap ∷ []) (limit_IsLine (codes "tables") limits.tables refl (omega (arith, h.tables.1)))
-    (All-cons IsLine swap [] (limit_IsLine (codes "swap") limits.swap refl h.swap.1) (All-nil IsLine))))
+    let last : List (List ℕ) = file_lines files in
+    All-cons IsLine version_line (frames ∷ tables ∷ swap ∷ last) (has_no 10 version_line refl)
+    (All-cons IsLine frames (tables ∷ swap ∷ last) (limit_IsLine (codes "frames") limits.frames refl h.frames.1)
+    (All-cons IsLine tables (swap ∷ last) (limit_IsLine (codes "tables") limits.tables refl (omega (arith, h.tables.1)))
+    (All-cons IsLine swap last (limit_IsLine (codes "swap") limits.swap refl h.swap.1) (files_are_lines files hf.each))))

@@ -1,5 +1,6 @@
 pub mod Beginnings
 pub mod Bodies
+pub mod ByteCells
 pub mod Closings
 pub mod CountLines
 pub mod Names
@@ -8,4 +9,7 @@ pub mod OneHistory
 pub mod OneReply
 pub mod OneVerdict
 pub mod Parts
+pub mod Reached
+pub mod Shelves
+pub mod Spelled
 pub mod Verdicts

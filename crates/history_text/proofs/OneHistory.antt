@@ -15,8 +15,8 @@ use Rattle.history_text.specs.declared.counts.Counts.{Counts}
 use Rattle.history_text.specs.Accounting.{header_lines, account_lines, frames_line, swap_line, tables_line, frames_counts, swap_counts, tables_counts, AreCounts}
 use Rattle.history_text.specs.HistoryText.{entry_line, history_lines, history_text, IsEntry, HasText, IsHistoryText, AreHistoryLines, IsFirstFault}
 use Rattle.history_text.proofs.OneEntry.{entry_line_IsLine}
-use Rattle.history_text.proofs.CountLines.{header_are_lines, counts_IsLine, counts_line_injective, limit_line_injective, frames_names, swap_names, tables_names, frames_line_no_entry}
-use Rattle.history_text.proofs.Beginnings.{FirstBehind, behind_entries, first_behind}
+use Rattle.history_text.proofs.CountLines.{header_are_lines, counts_IsLine, counts_line_injective, limit_line_injective, frames_names, swap_names, tables_names}
+use Rattle.history_text.proofs.Beginnings.{last_lines}
 
 entries_are_lines : (es : List Entry) → All IsEntry es → All IsLine (map entry_line es)
 entries_are_lines [] h = All-nil IsLine
@@ -30,15 +30,15 @@ accounts_are_lines f s t hf hs ht =
 
 pub history_are_lines : (h : History) → HasText h → All IsLine (history_lines h)
 history_are_lines h has =
-    All-append IsLine (header_lines h.limits) (map entry_line h.entries ++ account_lines h.accounts) (header_are_lines h.limits has.limits)
+    All-append IsLine (header_lines h.limits h.shelf) (map entry_line h.entries ++ account_lines h.accounts) (header_are_lines h.limits h.shelf has.limits has.files)
     (All-append IsLine (map entry_line h.entries) (account_lines h.accounts) (entries_are_lines h.entries has.entries)
     (accounts_are_lines (frames_counts h.accounts) (swap_counts h.accounts) (tables_counts h.accounts) has.accounts.frames has.accounts.swap has.accounts.tables))
 
 limits_from_parts : (a b : Limits) → a.frames ≡ b.frames → a.tables ≡ b.tables → a.swap ≡ b.swap → a ≡ b
 limits_from_parts a b frames tables swap = λ i. record { frames = frames i; tables = tables i; swap = swap i }
 
-pub same_limits : (a b : Limits) (x y : List (List ℕ)) → AreLimits a → AreLimits b → header_lines a ++ x ≡ header_lines b ++ y → a ≡ b
-same_limits a b x y ha hb same = limits_from_parts a b
+pub same_limits : (a b : Limits) (fs gs x y : List (List ℕ)) → AreLimits a → AreLimits b → header_lines a fs ++ x ≡ header_lines b gs ++ y → a ≡ b
+same_limits a b fs gs x y ha hb same = limits_from_parts a b
     (limit_line_injective (codes "frames") a.frames b.frames refl ha.frames.1 hb.frames.1 (cc))
     (limit_line_injective (codes "tables") a.tables b.tables refl (omega (arith, ha.tables.1)) (omega (arith, hb.tables.1)) (cc))
     (limit_line_injective (codes "swap") a.swap b.swap refl ha.swap.1 hb.swap.1 (cc))
@@ -56,11 +56,12 @@ accounts_from_counts a b f s t = λ i. record {
   limbo = (t i).third;
 }
 
-history_from_parts : (a b : History) → a.limits ≡ b.limits → a.entries ≡ b.entries → a.accounts ≡ b.accounts → a ≡ b
-history_from_parts a b limits entries accounts = λ i. record { limits = limits i; entries = entries i; accounts = accounts i }
+history_from_parts : (a b : History) → a.limits ≡ b.limits → a.shelf ≡ b.shelf → a.entries ≡ b.entries → a.accounts ≡ b.accounts → a ≡ b
+history_from_parts a b limits files entries accounts = λ i. record { limits = limits i; shelf = files i; entries = entries i; accounts = accounts i }
 
--- the same entries, and the same account lines
+-- the same files and entries, and the same account lines
 record SameBody (a b : History) : Type 0 where
+  pub files : a.shelf ≡ b.shelf
   pub entries : a.entries ≡ b.entries
   pub frames : frames_line (frames_counts a.accounts) ≡ frames_line (frames_counts b.accounts)
   pub swap : swap_line (swap_counts a.accounts) ≡ swap_line (swap_counts b.accounts)
@@ -68,21 +69,14 @@ record SameBody (a b : History) : Type 0 where
 
 same_body : (a b : History) → HasText a → HasText b → history_lines a ≡ history_lines b → SameBody a b
 same_body a b ha hb same =
-    let on = behind_entries a.limits a.entries (account_lines a.accounts) b hb ha.entries same in
-    elim (first_behind (frames_line (frames_counts a.accounts)) (swap_line (swap_counts a.accounts) ∷ tables_line (tables_counts a.accounts) ∷ []) on.more _ _ on.are_entries on.rest) [
-      | FirstBehind.entry e others goes is_entry is ↦ absurd (frames_line_no_entry (frames_counts a.accounts) ha.accounts.frames e is_entry is)
-      | FirstBehind.account none is rest ↦ record {
-        entries = sym (on.entries ∙ ap (λ es. a.entries ++ es) none ∙ append-nil a.entries);
-        frames = is;
-        swap = cc rest;
-        tables = cc rest;
-      }
-    ]
+    let last = last_lines a.limits a.shelf a.entries (frames_counts a.accounts) ha.files ha.entries ha.accounts.frames (swap_line (swap_counts a.accounts) ∷ tables_line (tables_counts a.accounts) ∷ []) b hb same in
+    let others = last.others in
+    record { files = last.files; entries = last.entries; frames = last.frames; swap = cc others; tables = cc others }
 
 pub history_lines_injective : (a b : History) → HasText a → HasText b → history_lines a ≡ history_lines b → a ≡ b
 history_lines_injective a b ha hb same =
     let body = same_body a b ha hb same in
-    history_from_parts a b (same_limits a.limits b.limits _ _ ha.limits hb.limits same) body.entries
+    history_from_parts a b (same_limits a.limits b.limits a.shelf b.shelf _ _ ha.limits hb.limits same) body.files body.entries
     (accounts_from_counts a.accounts b.accounts
     (counts_line_injective (codes "frames") (codes "free") (codes "mapped") (frames_counts a.accounts) (frames_counts b.accounts) frames_names ha.accounts.frames hb.accounts.frames body.frames)
     (counts_line_injective (codes "swap") (codes "free") (codes "used") (swap_counts a.accounts) (swap_counts b.accounts) swap_names ha.accounts.swap hb.accounts.swap body.swap)

@@ -1,5 +1,5 @@
 -- The lines of a history text before its entries and after them.
---     header_lines      the version, and the limits
+--     header_lines      the version, the limits and the files
 --     frames_line, swap_line, tables_line      numbers in use and not, and tables, at the end
 --     account_lines      all three
 --     AreCounts, AreAccounts      the numbers that have such lines
@@ -8,15 +8,15 @@ use Rattle.text_words.specs.Spelling.{number}
 use Rattle.text_words.specs.Layout.{joined}
 use Rattle.corten_base.specs.declared.numbers.Limits.{Limits}
 use Rattle.corten_base.specs.declared.numbers.Accounts.{Accounts}
-use Rattle.mm_script.specs.ScriptText.{limit_lines}
+use Rattle.mm_script.specs.ScriptText as scripts
 use Rattle.history_text.specs.declared.counts.Counts.{Counts}
 use Rattle.history_text.specs.Replies.{IsCount}
 
 abbrev pub version_line : List ℕ
 version_line = codes "corten 1"
 
-abbrev pub header_lines : Limits → List (List ℕ)
-header_lines limits = version_line ∷ limit_lines limits
+abbrev pub header_lines : Limits → List (List ℕ) → List (List ℕ)
+header_lines limits files = version_line ∷ scripts.header_lines limits files
 
 -- three numbers, each behind its word
 abbrev pub counts_words : List ℕ → List ℕ → List ℕ → Counts → List (List ℕ)

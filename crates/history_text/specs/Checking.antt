@@ -26,8 +26,8 @@ pub record AreRight (st : State) (a : Accounts) : Type 0 where
   pub fits : linked st + a.limbo ≤ st.limits.tables
 
 pub record IsLegalHistory (h : History) : Type 0 where
-  pub entries : IsHistory h.limits [] h.entries
-  pub accounts : AreRight (after (start h.limits []) h.entries) h.accounts
+  pub entries : IsHistory h.limits h.shelf h.entries
+  pub accounts : AreRight (after (start h.limits h.shelf) h.entries) h.accounts
 
 pub record AreLegalLines (lines : List (List ℕ)) : Type 0 where
   pub history : History

@@ -2,6 +2,7 @@
 --     answer_words, answer_line, entry_line      an answered call's words, and its line
 --     lines_of      the lines of entries
 --     history_lines, history_text      the lines of a history, and its text
+--     IsAsked      the bounds of an answered call, whatever its reply
 --     IsEntry, HasText      the bounds of an answered call, and of a history, that has a line or a text
 --     IsHistoryText      bytes that are the text of a history
 --     AreHistoryLines      the grammar: lines that are those of some history
@@ -14,7 +15,7 @@ use Rattle.corten_base.specs.declared.calls.Call.{Call}
 use Rattle.corten_base.specs.declared.calls.Reply.{Reply}
 use Rattle.corten_base.specs.declared.calls.Entry.{Entry}
 use Rattle.mm_script.specs.CallLine.{call_words, IsCall, IsWithin}
-use Rattle.mm_script.specs.ScriptText.{AreLimits}
+use Rattle.mm_script.specs.ScriptText.{AreLimits, AreFiles}
 use Rattle.history_text.specs.declared.history.History.{History}
 use Rattle.history_text.specs.Replies.{reply_words, IsReply}
 use Rattle.history_text.specs.Accounting.{header_lines, account_lines, AreAccounts}
@@ -37,10 +38,15 @@ abbrev pub lines_of : List Entry → List ℕ
 lines_of entries = text (map entry_line entries)
 
 abbrev pub history_lines : History → List (List ℕ)
-history_lines h = header_lines h.limits ++ (map entry_line h.entries ++ account_lines h.accounts)
+history_lines h = header_lines h.limits h.shelf ++ (map entry_line h.entries ++ account_lines h.accounts)
 
 abbrev pub history_text : History → List ℕ
 history_text h = text (history_lines h)
+
+-- the thread and the call are within their bounds, whatever the reply
+pub record IsAsked (e : Entry) : Type 0 where
+  pub thread : IsWithin 0 7 e.thread
+  pub call : IsCall e.call
 
 -- threads are numbered from 0 to 7
 pub record IsEntry (e : Entry) : Type 0 where
@@ -50,6 +56,7 @@ pub record IsEntry (e : Entry) : Type 0 where
 
 pub record HasText (h : History) : Type 0 where
   pub limits : AreLimits h.limits
+  pub files : AreFiles h.shelf
   pub entries : All IsEntry h.entries
   pub accounts : AreAccounts h.accounts
 

@@ -6,7 +6,9 @@ ghost use Rattle.history_text.specs.Accounting.{header_lines, account_lines};
 ghost use Rattle.history_text.specs.Accounting as definitions;
 
 use crate::counts::{Counts, push_counts};
+use crate::files::push_files;
 use corten_base::{Accounts, Limits};
+use file_shelf::Shelf;
 use std::alloc::AllocError;
 use text_words::{Word, push_words};
 
@@ -29,11 +31,12 @@ fn push_limits(out: &mut Vec<u8>, limits: Limits) -> Result<(), AllocError>
 }
 
 /// Adds the lines before the entries. After want of memory some of them may stand there.
-pub fn push_header(out: &mut Vec<u8>, limits: Limits) -> Result<(), AllocError>
-    ensures { OnOk result (out.new.items ≡ out.old.items ++ text (header_lines limits)) }
+pub fn push_header(out: &mut Vec<u8>, limits: Limits, shelf: &Shelf) -> Result<(), AllocError>
+    ensures { OnOk result (out.new.items ≡ out.old.items ++ text (header_lines limits shelf.now)) }
 {
     out.extend_from_slice(b"corten 1\n")?;
-    push_limits(out, limits)
+    push_limits(out, limits)?;
+    push_files(out, shelf)
 }
 
 /// The three numbers of the line of frames.

@@ -9,14 +9,14 @@ ghost use Rattle.history_text.specs.Wrong.{IsWrongAt, AreTablesRight, WrongAccou
 
 use crate::accounts::{frames_counts, swap_counts};
 use crate::counts::Counts;
+use crate::files::copy_of;
 use crate::history::History;
 use crate::verdict::Verdict;
 use corten_base::{Accounts, Entry, Reply};
-use file_shelf::Shelf;
 use mm_model::{Plain, StepFault};
 use std::alloc::{AllocError, Global};
 
-/// The line of the first answered call, where lines count from 1.
+/// The line of the first answered call where there is no file. Lines count from 1.
 const FIRST_ENTRY: u64 = 5;
 
 /// The page tables in limbo that a reply shows, and none where it shows none.
@@ -100,14 +100,16 @@ pub fn check(alloc: Global, history: &History) -> Result<Verdict, AllocError>
     requires { HasText history.now }
     ensures { IfOk result (IsVerdict history.now) }
 {
-    let mut plain = Plain::new(alloc, history.limits, Shelf::new(alloc))?;
+    let shelf = copy_of(alloc, &history.shelf)?;
+    let mut plain = Plain::new(alloc, history.limits, shelf)?;
+    let first = FIRST_ENTRY + u64::from(history.shelf.count());
     let entries = history.entries.list();
     if let Some(place) = first_wrong_entry(alloc, &mut plain, entries)? {
-        return Ok(Verdict::Illegal(FIRST_ENTRY + place as u64));
+        return Ok(Verdict::Illegal(first + place as u64));
     }
     let answered = entries.len() as u64;
     match first_wrong_account(&plain, &history.accounts) {
-        Some(place) => Ok(Verdict::Illegal(FIRST_ENTRY + answered + place)),
+        Some(place) => Ok(Verdict::Illegal(first + answered + place)),
         None => Ok(Verdict::Legal(answered)),
     }
 }

@@ -1,4 +1,4 @@
-//! The lines before the entries, read.
+//! The lines before the files, read.
 ghost use Rattle.std.specs.Prelude.{◌≡◌, ◌≢◌, ℕ, [], ◌∷◌, IfOk, IfErr, OnOk};
 ghost use Rattle.text_words.specs.Layout.{joined, words_of};
 ghost use Rattle.text_words.specs.Passing.{Passes, NoLine, FaultFrom};
@@ -14,9 +14,9 @@ use text_words::Lines;
 /// The first line of a history text.
 const VERSION: &[u8] = b"corten 1";
 
-/// Takes the lines before the entries.
+/// Takes the lines before the files.
 pub(crate) fn read_header(lines: &mut Lines<'_>) -> Result<Limits, ScriptFault>
-    ensures ok { IfOk result (λ limits. AreLimits limits × Passes lines.old lines.new (header_lines limits)) }
+    ensures ok { IfOk result (λ limits. AreLimits limits × Passes lines.old lines.new (header_lines limits [])) }
     ensures bad { IfErr result (λ fault. IfBad fault (FaultFrom AreHistoryLines lines.old [])) }
 {
     next_version(lines)?;

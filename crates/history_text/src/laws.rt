@@ -1,10 +1,12 @@
 //! Laws of entries' lines and of history texts.
-ghost use Rattle.std.specs.Prelude.{◌≡◌, ℕ, ◌+◌, List, [], ◌++◌, length};
+ghost use Rattle.std.specs.Prelude.{◌≡◌, ℕ, ◌+◌, List, ◌++◌, length, All};
+ghost use Rattle.corten_base.specs.declared.numbers.Limits.{Limits};
 ghost use Rattle.corten_base.specs.declared.calls.Entry.{Entry};
 ghost use Rattle.history_text.specs.declared.history.History.{History};
 ghost use Rattle.history_text.specs.declared.verdict.Verdict.{Verdict};
-ghost use Rattle.history_text.specs.HistoryText.{entry_words, entry_line, history_lines, history_text, IsEntry, HasText, IsHistoryText, IsFirstFault};
-ghost use Rattle.page_map.specs.State.{start};
+ghost use Rattle.mm_script.specs.ScriptText.{AreLimits, AreFiles};
+ghost use Rattle.history_text.specs.HistoryText.{entry_words, entry_line, history_lines, history_text, IsAsked, IsEntry, HasText, IsHistoryText, IsFirstFault};
+ghost use Rattle.page_map.specs.State.{start, accounts};
 ghost use Rattle.page_map.specs.History.{IsHistory, after};
 ghost use Rattle.history_text.specs.Checking.{IsVerdict, IsFirstWrong};
 ghost use Rattle.history_text.specs.Wrong.{IsWrongAt, WrongAccount};
@@ -46,7 +48,16 @@ pub fn a_history_has_one_verdict()
 /// The first wrong line is that of the first answered call whose reply is not the step's, and where each reply is the step's, the first
 /// account line that is not that of the state which they leave.
 pub fn a_wrong_reply_or_account_is_the_first_wrong_line()
-    ensures reply { (h : History) (i : ℕ) → HasText h → IsWrongAt (start h.limits []) h.entries i → IsFirstWrong (history_lines h) (5 + i) }
-    ensures account { (h : History) (i : ℕ) → HasText h → IsHistory h.limits [] h.entries
-        → WrongAccount (after (start h.limits []) h.entries) h.accounts i → IsFirstWrong (history_lines h) (5 + length h.entries + i) }
+    ensures reply { (h : History) (i : ℕ) → HasText h → IsWrongAt (start h.limits h.shelf) h.entries i
+        → IsFirstWrong (history_lines h) (5 + length h.shelf + i) }
+    ensures account { (h : History) (i : ℕ) → HasText h → IsHistory h.limits h.shelf h.entries
+        → WrongAccount (after (start h.limits h.shelf) h.entries) h.accounts i → IsFirstWrong (history_lines h) (5 + length h.shelf + length h.entries + i) }
+{}
+
+/// Each answered call of a legal history has a line where its call has one, and the accounts of the state that they leave have theirs. So
+/// every legal history of calls that have lines has a text.
+pub fn a_legal_history_has_a_text()
+    ensures entries { (limits : Limits) (files : List (List ℕ)) (es : List Entry) → AreLimits limits → AreFiles files → All IsAsked es → IsHistory limits files es → All IsEntry es }
+    ensures text { (limits : Limits) (files : List (List ℕ)) (es : List Entry) → AreLimits limits → AreFiles files → All IsAsked es → IsHistory limits files es
+        → HasText (record { limits = limits; shelf = files; entries = es; accounts = accounts (after (start limits files) es) 0 }) }
 {}

@@ -1,9 +1,9 @@
 //! Histories, read from their texts.
-ghost use Rattle.std.specs.Prelude.{◌≡◌, List, [], ◌∷◌, ◌++◌, map, All, IfOk, IfErr};
+ghost use Rattle.std.specs.Prelude.{◌≡◌, ℕ, List, [], ◌∷◌, ◌++◌, map, All, IfOk, IfErr};
 ghost use Rattle.corten_base.specs.declared.numbers.Limits.{Limits};
 ghost use Rattle.corten_base.specs.declared.calls.Entry.{Entry};
 ghost use Rattle.text_words.specs.Passing.{Passes, FaultFrom};
-ghost use Rattle.mm_script.specs.ScriptText.{AreLimits, IfBad};
+ghost use Rattle.mm_script.specs.ScriptText.{AreLimits, AreFiles, IfBad};
 ghost use Rattle.history_text.specs.declared.counts.Counts.{Counts};
 ghost use Rattle.history_text.specs.declared.history.History.{History};
 ghost use Rattle.history_text.specs.Accounting.{header_lines, frames_line, swap_line, tables_line, AreCounts, frames_counts, swap_counts, tables_counts};
@@ -29,9 +29,9 @@ struct Ends {
 fn read_ends(lines: &mut Lines<'_>) -> Result<Ends, ScriptFault>
     ensures ok { IfOk result (λ ends. AreCounts ends.swap × AreCounts ends.tables
         × Passes lines.old lines.new (swap_line ends.swap ∷ tables_line ends.tables ∷ []) × (lines.new.bytes ≡ [])) }
-    ensures bad { IfErr result (λ fault. IfBad fault (λ n. (limits : Limits) (entries : List Entry) (frames : Counts) →
-        AreLimits limits → All IsEntry entries → AreCounts frames →
-        FaultFrom AreHistoryLines lines.old (header_lines limits ++ (map entry_line entries ++ frames_line frames ∷ [])) n)) }
+    ensures bad { IfErr result (λ fault. IfBad fault (λ n. (limits : Limits) (files : List (List ℕ)) (entries : List Entry) (frames : Counts) →
+        AreLimits limits → AreFiles files → All IsEntry entries → AreCounts frames →
+        FaultFrom AreHistoryLines lines.old (header_lines limits files ++ (map entry_line entries ++ frames_line frames ∷ [])) n)) }
 {
     let swap = next_counts(lines, b"swap", b"free", b"used")?;
     let tables = next_counts(lines, b"tables", b"linked", b"limbo")?;
@@ -76,6 +76,7 @@ pub fn read_history(alloc: Global, bytes: &[u8]) -> Result<History, ScriptFault>
     let ends = read_ends(&mut lines)?;
     Ok(History {
         limits,
+        shelf: body.shelf,
         entries: body.entries,
         accounts: accounts_of(body.frames, ends.swap, ends.tables),
     })

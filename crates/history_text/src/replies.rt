@@ -3,12 +3,14 @@ ghost use Rattle.std.specs.Prelude.{◌≡◌, ◌≢◌, ◌++◌, [], ◌∷�
 ghost use Rattle.text_words.specs.Spelling.{number, address};
 ghost use Rattle.text_words.specs.Layout.{joined};
 ghost use Rattle.corten_base.specs.declared.calls.Reply.{Reply};
-ghost use Rattle.history_text.specs.Replies.{reply_words, why_words, IsReply};
+ghost use Rattle.corten_base.specs.declared.calls.Why.{Why};
+ghost use Rattle.history_text.specs.Replies.{reply_words, why_words, IsReply, IsWhy};
+ghost use Rattle.history_text.specs.Reading.{Reads, ReadsNone};
 
-use crate::counts::next_pair;
+use crate::counts::{next_count, next_pair};
 use crate::reply_names::{ReplyName, reply_name};
 use corten_base::{Reply, Why};
-use mm_script::{next_address, next_bytes, next_number};
+use mm_script::{next_address, next_bytes, next_number, next_within};
 use std::alloc::{AllocError, Global};
 use text_words::{Word, Words, push_words};
 
@@ -129,37 +131,37 @@ pub(crate) fn next_reply(alloc: Global, words: &mut Words<'_>) -> Result<Option<
         ReplyName::Ok => Ok(Some(Reply::Ok)),
         ReplyName::At => Ok(next_at(words)),
         ReplyName::Bytes => next_byte_list(alloc, words),
+        ReplyName::Space => Ok(next_space(words)),
+        ReplyName::Moved => Ok(next_moved(words)),
+        ReplyName::Done => Ok(Some(Reply::Done)),
+        ReplyName::Undone => Ok(next_undone(words)),
         ReplyName::Einval => Ok(Some(Reply::Einval)),
+        ReplyName::NoSpace => Ok(Some(Reply::NoSpace)),
+        ReplyName::NoSpaces => Ok(Some(Reply::NoSpaces)),
         ReplyName::NoRoom => Ok(Some(Reply::NoRoom)),
+        ReplyName::Exists => Ok(next_exists(words)),
+        ReplyName::Hole => Ok(next_hole(words)),
         ReplyName::Segv => Ok(next_segv(words)),
+        ReplyName::Denied => Ok(next_denied(words)),
+        ReplyName::Bus => Ok(next_bus(words)),
         ReplyName::NoTables => Ok(next_no_tables(words)),
         ReplyName::NoFrames => Ok(next_no_frames(words)),
+        ReplyName::NoSwap => Ok(next_no_swap(words)),
     }
 }
 
 /// Takes the words of an `at` behind that word.
 fn next_at(words: &mut Words<'_>) -> Option<Reply>
-    ensures found { IfSome result (λ reply. IsReply reply × (codes "at" ∷ words.old ≡ reply_words reply ++ words.new)) }
-    ensures none { IfNone result ((reply : Reply) (rest : List (List ℕ)) →
-        IsReply reply → codes "at" ∷ words.old ≢ reply_words reply ++ rest) }
+    ensures found { IfSome result (Reads (codes "at") words.old words.new) }
+    ensures none { IfNone result (ReadsNone (codes "at") words.old) }
 {
     Some(Reply::At(next_address(words)?))
 }
 
-/// Takes the words of a `segv` behind that word.
-fn next_segv(words: &mut Words<'_>) -> Option<Reply>
-    ensures found { IfSome result (λ reply. IsReply reply × (codes "segv" ∷ words.old ≡ reply_words reply ++ words.new)) }
-    ensures none { IfNone result ((reply : Reply) (rest : List (List ℕ)) →
-        IsReply reply → codes "segv" ∷ words.old ≢ reply_words reply ++ rest) }
-{
-    Some(Reply::Segv(next_address(words)?))
-}
-
 /// Takes the words of a `bytes` behind that word.
 fn next_byte_list(alloc: Global, words: &mut Words<'_>) -> Result<Option<Reply>, AllocError>
-    ensures found { IfOk result (λ read. IfSome read (λ reply. IsReply reply × (codes "bytes" ∷ words.old ≡ reply_words reply ++ words.new))) }
-    ensures none { IfOk result (λ read. IfNone read ((reply : Reply) (rest : List (List ℕ)) →
-        IsReply reply → codes "bytes" ∷ words.old ≢ reply_words reply ++ rest)) }
+    ensures found { IfOk result (λ read. IfSome read (Reads (codes "bytes") words.old words.new)) }
+    ensures none { IfOk result (λ read. IfNone read (ReadsNone (codes "bytes") words.old)) }
 {
     let Some(bytes) = next_bytes(alloc, words)? else {
         return Ok(None);
@@ -167,11 +169,96 @@ fn next_byte_list(alloc: Global, words: &mut Words<'_>) -> Result<Option<Reply>,
     Ok(Some(Reply::Bytes(bytes)))
 }
 
+/// Takes the words of a `space` behind that word.
+fn next_space(words: &mut Words<'_>) -> Option<Reply>
+    ensures found { IfSome result (Reads (codes "space") words.old words.new) }
+    ensures none { IfNone result (ReadsNone (codes "space") words.old) }
+{
+    let space = next_within(words, 0, 63)?;
+    Some(Reply::Space(space as u8))
+}
+
+/// Takes the words of a `moved` behind that word.
+fn next_moved(words: &mut Words<'_>) -> Option<Reply>
+    ensures found { IfSome result (Reads (codes "moved") words.old words.new) }
+    ensures none { IfNone result (ReadsNone (codes "moved") words.old) }
+{
+    Some(Reply::Moved(next_count(words)?))
+}
+
+/// Takes the words of an `undone` behind that word.
+fn next_undone(words: &mut Words<'_>) -> Option<Reply>
+    ensures found { IfSome result (Reads (codes "undone") words.old words.new) }
+    ensures none { IfNone result (ReadsNone (codes "undone") words.old) }
+{
+    let operation = next_within(words, 1, 16)?;
+    let why = next_why(words)?;
+    Some(Reply::Undone(operation as u8, why))
+}
+
+/// Takes the words of why an operation was refused.
+fn next_why(words: &mut Words<'_>) -> Option<Why>
+    ensures found { IfSome result (λ reason. IsWhy reason × (words.old ≡ why_words reason ++ words.new)) }
+    ensures none { IfNone result ((reason : Why) (rest : List (List ℕ)) → IsWhy reason → words.old ≢ why_words reason ++ rest) }
+{
+    let Some(word) = words.next_word() else {
+        return None;
+    };
+    let Some(name) = reply_name(word) else {
+        return None;
+    };
+    match name {
+        ReplyName::Einval => Some(Why::Einval),
+        ReplyName::Exists => Some(Why::Exists(next_address(words)?)),
+        ReplyName::Hole => Some(Why::Hole(next_address(words)?)),
+        _ => None,
+    }
+}
+
+/// Takes the words of an `exists` behind that word.
+fn next_exists(words: &mut Words<'_>) -> Option<Reply>
+    ensures found { IfSome result (Reads (codes "exists") words.old words.new) }
+    ensures none { IfNone result (ReadsNone (codes "exists") words.old) }
+{
+    Some(Reply::Exists(next_address(words)?))
+}
+
+/// Takes the words of a `hole` behind that word.
+fn next_hole(words: &mut Words<'_>) -> Option<Reply>
+    ensures found { IfSome result (Reads (codes "hole") words.old words.new) }
+    ensures none { IfNone result (ReadsNone (codes "hole") words.old) }
+{
+    Some(Reply::Hole(next_address(words)?))
+}
+
+/// Takes the words of a `segv` behind that word.
+fn next_segv(words: &mut Words<'_>) -> Option<Reply>
+    ensures found { IfSome result (Reads (codes "segv") words.old words.new) }
+    ensures none { IfNone result (ReadsNone (codes "segv") words.old) }
+{
+    Some(Reply::Segv(next_address(words)?))
+}
+
+/// Takes the words of a `denied` behind that word.
+fn next_denied(words: &mut Words<'_>) -> Option<Reply>
+    ensures found { IfSome result (Reads (codes "denied") words.old words.new) }
+    ensures none { IfNone result (ReadsNone (codes "denied") words.old) }
+{
+    Some(Reply::Denied(next_address(words)?))
+}
+
+/// Takes the words of a `bus` behind that word.
+fn next_bus(words: &mut Words<'_>) -> Option<Reply>
+    ensures found { IfSome result (Reads (codes "bus") words.old words.new) }
+    ensures none { IfNone result (ReadsNone (codes "bus") words.old) }
+{
+    Some(Reply::Bus(next_address(words)?))
+}
+
 /// Takes the words of a `notables` behind that word.
 fn next_no_tables(words: &mut Words<'_>) -> Option<Reply>
-    ensures found { IfSome result (λ reply. IsReply reply × (codes "notables" ∷ words.old ≡ reply_words reply ++ words.new)) }
-    ensures none { IfNone result ((reply : Reply) (rest : List (List ℕ)) →
-        IsReply reply → codes "notables" ∷ words.old ≢ reply_words reply ++ rest) }
+    ensures found { IfSome result (Reads (codes "notables") words.old words.new) }
+    ensures none { IfNone result (ReadsNone (codes "notables") words.old) }
 {
     let (linked, limbo) = next_pair(words)?;
     let need = next_number(words)?;
@@ -184,10 +271,18 @@ fn next_no_tables(words: &mut Words<'_>) -> Option<Reply>
 
 /// Takes the words of a `noframes` behind that word.
 fn next_no_frames(words: &mut Words<'_>) -> Option<Reply>
-    ensures found { IfSome result (λ reply. IsReply reply × (codes "noframes" ∷ words.old ≡ reply_words reply ++ words.new)) }
-    ensures none { IfNone result ((reply : Reply) (rest : List (List ℕ)) →
-        IsReply reply → codes "noframes" ∷ words.old ≢ reply_words reply ++ rest) }
+    ensures found { IfSome result (Reads (codes "noframes") words.old words.new) }
+    ensures none { IfNone result (ReadsNone (codes "noframes") words.old) }
 {
     let (free, need) = next_pair(words)?;
     Some(Reply::NoFrames { free, need })
+}
+
+/// Takes the words of a `noswap` behind that word.
+fn next_no_swap(words: &mut Words<'_>) -> Option<Reply>
+    ensures found { IfSome result (Reads (codes "noswap") words.old words.new) }
+    ensures none { IfNone result (ReadsNone (codes "noswap") words.old) }
+{
+    let (free, need) = next_pair(words)?;
+    Some(Reply::NoSwap { free, need })
 }

@@ -14,6 +14,7 @@ use crate::accounts::{push_accounts, push_header};
 use crate::entries::push_entry;
 use byte_streams::write_whole;
 use corten_base::{Accounts, Call, Entry, Limits, Reply, Sink};
+use file_shelf::Shelf;
 use std::alloc::Global;
 
 /// So many bytes are gathered before they go to the sink.
@@ -116,17 +117,18 @@ pub fn write_accounts<K: Sink>(waiting: &mut Vec<u8>, accounts: &Accounts, sink:
 pub fn write_history<K: Sink>(
     alloc: Global,
     limits: Limits,
+    shelf: &Shelf,
     entries: &[Entry],
     accounts: &Accounts,
     sink: &mut K,
 ) -> Written
     requires { All IsEntry entries.now }
     ensures written { IsWritten (K.held sink.old) (K.held sink.new) (K.faults sink.old) (K.faults sink.new)
-        (history_text (record { limits = limits; entries = entries.now; accounts = accounts.now })) result }
+        (history_text (record { limits = limits; shelf = shelf.now; entries = entries.now; accounts = accounts.now })) result }
     ensures count { K.faults sink.old ≤ K.faults sink.new }
 {
     let mut waiting = Vec::new(alloc);
-    let Ok(()) = push_header(&mut waiting, limits) else {
+    let Ok(()) = push_header(&mut waiting, limits, shelf) else {
         return Written::NoMemory;
     };
     match write_entries(entries, &mut waiting, sink) {

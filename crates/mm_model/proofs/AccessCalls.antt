@@ -15,7 +15,7 @@ use Rattle.page_map.specs.Effect.{state_after, answer}
 use Rattle.page_map.specs.Step.{step, refusal}
 use Rattle.page_map.proofs.Steps.{accepted, refused}
 use Rattle.page_map.proofs.StepKeeps.{step_keeps}
-use Rattle.plain_spaces.specs.Owners.{unused_of}
+use Rattle.plain_counts.specs.Owners.{unused_of}
 use Rattle.mm_model.specs.Plain.{IsSound}
 use Rattle.plain_spaces.specs.Reach.{wanting, refused_in, IsWhole, IsCounted, Makes, Keeps}
 use Rattle.mm_model.specs.Accesses.{Refuses, Accepts, answered}

@@ -27,7 +27,7 @@ use Rattle.page_map.specs.Step.{refusal, first_refusal, refused_unless, argument
 use Rattle.page_map.proofs.Keys.{keys_in_more, chosen}
 use Rattle.page_map.proofs.Places.{place_total, place_exact}
 use Rattle.page_map.proofs.Evaluate.{union_empty, alike, difference_empty}
-use Rattle.plain_spaces.specs.Owners.{unused_of}
+use Rattle.plain_counts.specs.Owners.{unused_of}
 use Rattle.mm_model.specs.Plain.{owner_counts}
 use Rattle.plain_spaces.specs.Reach.{reaching, storing, wants, wanting, lack, refused_in}
 use Rattle.plain_spaces.proofs.Plans.{no_keys}

@@ -48,10 +48,10 @@ module _ {X : Type 0} (w : X → ℕ) where
 pub counted_at : (f : ℕ → ℕ) (limit : ℕ) (counts : List ℕ) → counts ≡ owner_counts f limit → (n : ℕ) → n < limit → get_or counts n 0 ≡ f n
 counted_at f limit counts e n h = ap (λ l. get_or l n 0) e ∙ get_or-map-range_with_len f 0 limit n n 0 h (omega arith)
 
-counts_long : (f : ℕ → ℕ) (limit : ℕ) (counts : List ℕ) → counts ≡ owner_counts f limit → length counts ≡ limit
+pub counts_long : (f : ℕ → ℕ) (limit : ℕ) (counts : List ℕ) → counts ≡ owner_counts f limit → length counts ≡ limit
 counts_long f limit counts e = ap length e ∙ length-map-range_with_len f 0 limit
 
-counts_from : (f : ℕ → ℕ) (limit : ℕ) (counts : List ℕ) → length counts ≡ limit → ((n : ℕ) → n < limit → get_or counts n 0 ≡ f n) → counts ≡ owner_counts f limit
+pub counts_from : (f : ℕ → ℕ) (limit : ℕ) (counts : List ℕ) → length counts ≡ limit → ((n : ℕ) → n < limit → get_or counts n 0 ≡ f n) → counts ≡ owner_counts f limit
 counts_from f limit counts long each = same_lists counts (owner_counts f limit) (long ∙ sym (length-map-range_with_len f 0 limit)) (λ k d h.
     let below : k < limit = omega (arith, h, long) in
     get_or_default counts k d 0 h ∙ each k below ∙ sym (get_or-map-range_with_len f 0 limit k k d below (omega arith)))

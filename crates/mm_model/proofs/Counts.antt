@@ -13,9 +13,9 @@ use Rattle.page_map.specs.declared.cell.Cell.{Cell}
 use Rattle.page_map.specs.State.{AddressSpace, start, owners, carries, unused}
 use Rattle.page_map.proofs.Weights.{weight_insert}
 use Rattle.page_map.proofs.Evaluate.{entries_empty}
-use Rattle.plain_spaces.specs.Owners.{unused_of}
+use Rattle.plain_counts.specs.Owners.{unused_of}
 use Rattle.mm_model.specs.Plain.{owner_counts}
-use Rattle.plain_spaces.proofs.Tally.{same_filter, length-unused}
+use Rattle.plain_counts.proofs.Tally.{same_filter, length-unused}
 
 nothing_carried : {X : Type 0} (w : X → ℕ) → sum_by w (fin.values (fin.empty {K = ℕ} {X = X} {R = nat_cmp})) ≡ 0
 nothing_carried w = ap (λ es. sum_by w (map (λ e. e.1) es)) (entries_empty nat_cmp)

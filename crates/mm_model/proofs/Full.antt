@@ -14,7 +14,7 @@ use Rattle.page_map.specs.Tables.{Tables}
 use Rattle.page_map.specs.Mapping.{arena_first}
 use Rattle.page_map.proofs.Range.{get-change, inside}
 use Rattle.page_map.proofs.Cells.{changed, cell_changed, spaces_changed}
-use Rattle.plain_spaces.specs.Fronts.{AreFull, IsFull, full_pages, full_before}
+use Rattle.plain_counts.specs.Fronts.{AreFull, IsFull, full_pages, full_before}
 
 -- cells that come, and none that goes
 pub still_full : (st next : State) (fronts : List ℕ) → ((s q : ℕ) → IsSome (cell_at st s q) → IsSome (cell_at next s q)) → AreFull st fronts → AreFull next fronts

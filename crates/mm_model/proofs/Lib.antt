@@ -10,3 +10,8 @@ pub mod Full
 pub mod OpSteps
 pub mod OpCalls
 pub mod Fixed
+pub mod Bounds
+pub mod SwapSteps
+pub mod NewSpaces
+pub mod SpaceSteps
+pub mod Exits

@@ -18,7 +18,7 @@ use Rattle.page_map.specs.Step.{step, reply_why}
 use Rattle.page_map.specs.Effect.{answer}
 use Rattle.page_map.proofs.Steps.{accepted, refused}
 use Rattle.page_map.proofs.StepKeeps.{step_keeps}
-use Rattle.plain_spaces.specs.Fronts.{AreFull}
+use Rattle.plain_counts.specs.Fronts.{AreFull}
 use Rattle.plain_spaces.specs.Reach.{Follows}
 use Rattle.mm_model.specs.Plain.{IsSound}
 use Rattle.mm_model.proofs.Carried.{counts_follow}

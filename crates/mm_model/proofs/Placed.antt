@@ -24,7 +24,7 @@ use Rattle.page_map.proofs.Mappings.{gap_user, page_range}
 use Rattle.page_map.proofs.Steps.{Passed, passed, accepted, not_none}
 use Rattle.page_map.proofs.Unmapped.{held_of}
 use Rattle.plain_spaces.specs.Backing.{index_of}
-use Rattle.plain_spaces.specs.Fronts.{AreFull}
+use Rattle.plain_counts.specs.Fronts.{AreFull}
 use Rattle.plain_spaces.specs.Reach.{Follows}
 use Rattle.mm_model.specs.Placing.{IsPlaced, MayPut, after_put, call_of, filled, tables_with, tables_lack}
 use Rattle.mm_model.specs.Plain.{IsSound}

@@ -2,3 +2,4 @@ pub mod Plain
 pub mod Accesses
 pub mod Placing
 pub mod Served
+pub mod NewSpaces

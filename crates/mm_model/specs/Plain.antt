@@ -3,7 +3,7 @@
 --     IsSound      the facts that hold of the state, and what the counts of owners and the fronts say of it
 use Rattle.std.specs.Prelude.{◌≡◌, ℕ, List, map}
 use Rattle.std.specs.List.{range_with_len}
-use Rattle.plain_spaces.specs.Fronts.{AreFull}
+use Rattle.plain_counts.specs.Fronts.{AreFull}
 use Rattle.page_map.specs.State.{State, IsConsistent, IsWithinLimits, frame_owners, slot_owners}
 
 -- how many keys carry each of the numbers below the limit

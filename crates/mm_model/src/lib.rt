@@ -5,7 +5,9 @@ mod accesses;
 mod mapping;
 mod operations;
 mod plain;
+mod spaces;
 mod step;
+mod swapping;
 
 pub use plain::Plain;
 pub use step::StepFault;

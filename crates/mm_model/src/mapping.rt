@@ -14,7 +14,8 @@ ghost use Rattle.mm_model.specs.Placing.{call_of, call_at, IsPlaced, IsFixed, Ma
 use crate::plain::Plain;
 use corten_base::{Backing, Perm, Range, Reply, SpaceId};
 use file_shelf::Shelf;
-use plain_spaces::{AddressSpace, NewPages, Owners, Tables};
+use plain_counts::{Owners, Tables};
+use plain_spaces::{AddressSpace, NewPages};
 use std::alloc::{AllocError, Global};
 
 /// A mapping without a place of its own.

@@ -7,7 +7,8 @@ ghost use Rattle.page_map.specs.State.{IsWithinLimits, start, linked, accounts};
 
 use corten_base::{Accounts, Limits, SpaceId, Status};
 use file_shelf::Shelf;
-use plain_spaces::{AddressSpace, Fronts, Owners, Spaces, Tables};
+use plain_counts::{Fronts, Owners, Tables};
+use plain_spaces::{AddressSpace, Spaces};
 use std::alloc::{AllocError, Global};
 use std::marker::Model;
 use table_place::Place;

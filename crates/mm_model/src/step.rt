@@ -96,14 +96,18 @@ impl Plain {
             Call::Load { space, at, len } => self.load(alloc, *space, *at, *len),
             Call::Store { space, at, bytes } => self.store(alloc, *space, *at, bytes),
             Call::Fault { space, at, write } => self.fault(alloc, *space, *at, *write),
-            _ => unreachable!(),
+            Call::Spawn => self.spawn(alloc, limbo),
+            Call::Fork { space } => self.fork(alloc, *space, limbo),
+            Call::Exit { space } => Ok(self.exit(*space)),
+            Call::SwapOut { space, at, len } => Ok(self.swap_out(*space, *at, *len)),
+            Call::SwapIn { space, at, len } => Ok(self.swap_in(*space, *at, *len)),
+            Call::Txn { .. } => unreachable!(),
         }
     }
 
     /// Makes a call for a thread, where so many page tables are in limbo, and gives its reply.
     ///
-    /// The calls are `map` in its three forms, `unmap`, `protect`, `load`, `store` and `fault`; an access is of 1 to 4,096 bytes, and a thread's number
-    /// is below 8.
+    /// The calls are all but `txn`; an access is of 1 to 4,096 bytes, and a thread's number is below 8.
     pub fn step(
         &mut self,
         alloc: Global,

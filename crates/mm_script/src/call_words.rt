@@ -134,7 +134,7 @@ pub fn next_bytes(alloc: Global, words: &mut Words<'_>) -> Result<Option<ByteLis
         return Ok(None);
     }
     match read_hex(alloc, word)? {
-        Some(bytes) => Ok(Some(ByteList::of(alloc, &bytes)?)),
+        Some(bytes) => Ok(Some(ByteList::from_vec(bytes))),
         None => Ok(None),
     }
 }

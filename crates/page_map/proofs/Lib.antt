@@ -31,5 +31,10 @@ pub mod Bytewise
 pub mod Gaps
 pub mod Few
 pub mod Recalled
+pub mod Views
+pub mod OwnCalls
+pub mod LoadReplies
+pub mod Apart
+pub mod Freed
 pub mod Written
 pub mod Replies

@@ -12,4 +12,5 @@ pub mod Step
 pub mod History
 pub mod StateCode
 pub mod Memory
+pub mod Found
 pub mod Worked

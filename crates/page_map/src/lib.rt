@@ -5,6 +5,7 @@ mod cell;
 mod history_laws;
 mod laws;
 mod memory_laws;
+mod space_laws;
 mod worked_scripts;
 
 pub use cell::Cell;
@@ -21,5 +22,11 @@ pub use memory_laws::{
     a_copy_reads_as_its_source, a_load_replies_what_is_there, a_mapped_page_reads_as_what_backs_it,
     a_store_puts_its_bytes, other_bytes_stay, what_is_fresh_is_loaded_as_zeros,
     what_is_stored_is_loaded,
+};
+pub use space_laws::{
+    a_fork_leaves_two_spaces_apart, a_load_is_answered_by_what_is_found,
+    a_space_reads_by_its_own_calls, an_exit_is_not_found_elsewhere,
+    calls_on_other_spaces_are_not_found, moves_to_swap_and_back_are_not_found,
+    numbers_are_free_or_in_use, what_was_forked_is_loaded,
 };
 pub use worked_scripts::{first_run_is_a_history, no_calls_is_a_history};

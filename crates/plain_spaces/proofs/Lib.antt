@@ -1,10 +1,4 @@
 pub mod Variants
-pub mod Sets
-pub mod Least
-pub mod Free
-pub mod Gaps
-pub mod Bits
-pub mod Tally
 pub mod Reach
 pub mod Plans
 pub mod Moves
@@ -12,10 +6,14 @@ pub mod Brought
 pub mod Stores
 pub mod Loads
 pub mod Made
-pub mod Levels
-pub mod Missing
 pub mod Parts
 pub mod Nexts
 pub mod Followed
 pub mod Vacant
 pub mod Files
+pub mod Keys
+pub mod FirstPages
+pub mod Swaps
+pub mod Swapped
+pub mod Copied
+pub mod NewTables

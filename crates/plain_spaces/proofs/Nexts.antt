@@ -6,7 +6,7 @@ use Rattle.std.specs.Ordering.{nat_cmp}
 use Rattle.std.specs.FinMap.{FinMap, get}
 use Rattle.page_map.specs.Change.{least}
 use Rattle.page_map.proofs.Least.{least_passes, unanswered, none_below_least}
-use Rattle.plain_spaces.proofs.Least.{least_is, least_none}
+use Rattle.plain_counts.proofs.Least.{least_is, least_none}
 
 pub none_from : {A : Type 0} (o : Option A) → is_some o ≡ false → o ≡ None
 none_from None h = refl

@@ -21,13 +21,13 @@ use Rattle.page_map.specs.Access.{Access, first_page, page_count, refused_at, re
 use Rattle.page_map.proofs.Range.{inside}
 use Rattle.page_map.proofs.Keys.{keys_in_more, chosen}
 use Rattle.page_map.proofs.Owners.{one_weight, same_some}
-use Rattle.plain_spaces.specs.Owners.{unused_of}
+use Rattle.plain_counts.specs.Owners.{unused_of}
 use Rattle.plain_spaces.specs.Reach.{last_page, beyond, wants, wanting, lack, refused_in, carried, IsCounted}
 use Rattle.plain_spaces.specs.Wants.{want_of, is_wanting}
 use Rattle.plain_spaces.specs.declared.plan.Want.{Want}
 use Rattle.plain_spaces.specs.declared.plan.Want.TheVariants.{Nothing, Frame}
 use Rattle.plain_spaces.proofs.Reach.{earliest_one, earliest_two, one_or_two}
-use Rattle.plain_spaces.proofs.Tally.{counted}
+use Rattle.plain_counts.proofs.Tally.{counted}
 
 -- a cell that carries a number is one of its owners
 pub carried_here : (number_of : Cell → Option ℕ) (n : ℕ) (cells : AddressSpace) (page : ℕ) (cell : Cell) → get cells page ≡ Some cell → number_of cell ≡ Some n → 1 ≤ carried number_of n cells

@@ -26,7 +26,7 @@ use Rattle.page_map.specs.Cell.{perm_of, frame_of, slot_of, contents}
 use Rattle.page_map.specs.State.{AddressSpace, carries}
 use Rattle.page_map.specs.Takes.{Grant, grant, granted}
 use Rattle.page_map.specs.Access.{Access, first_page, page_count, refused_access, after_access}
-use Rattle.plain_spaces.specs.Owners.{unused_of}
+use Rattle.plain_counts.specs.Owners.{unused_of}
 
 abbrev pub reaching : ℕ → ℕ → Bool → Access
 reaching at len write = record { at = at; len = len; write = write; stored = [] }

@@ -10,11 +10,11 @@ ghost use Rattle.page_map.specs.Access.{first_page, page_count, outside_user_pag
 ghost use Rattle.plain_spaces.specs.Reach.{reaching, storing, last_page, IsUserAccess, refused_in, overwritten, stored_at, bytes_of, IsResident, IsWhole, IsCounted, Makes, Keeps};
 ghost use Rattle.plain_spaces.specs.Wants.{refusal_of};
 
-use crate::owners::Owners;
 use crate::space::AddressSpace;
 use corten_base::{ByteList, PAGE_BYTES, Reply};
 use file_shelf::Shelf;
 use page_map::Cell;
+use plain_counts::Owners;
 use std::alloc::{AllocError, Global};
 use std::marker::Model;
 

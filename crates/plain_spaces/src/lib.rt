@@ -1,23 +1,18 @@
-//! What the plain machine keeps: the cells of address spaces, the page tables above them, and how many keys carry each
-//! frame and each swap slot; accesses to the cells of a space.
+//! What the plain machine keeps of its spaces: their cells by page; accesses and mapping operations on the cells of one space.
 #![tactic(auto)]
 
 mod access;
-mod fronts;
-mod owners;
+mod copy;
 mod plan;
 mod protect;
 mod release;
 mod replace;
 mod space;
 mod spaces;
-mod tables;
+mod swap;
 
 pub use access::{Access, Stop};
-pub use fronts::Fronts;
-pub use owners::Owners;
 pub use plan::{Plan, Want};
 pub use replace::NewPages;
-pub use space::AddressSpace;
+pub use space::{AddressSpace, new_cell};
 pub use spaces::Spaces;
-pub use tables::Tables;

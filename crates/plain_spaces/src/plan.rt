@@ -7,17 +7,17 @@ ghost use Rattle.page_map.specs.Cell.{perm_of, frame_of, slot_of, is_past_end, f
 ghost use Rattle.page_map.specs.Cell.{zeros as page_zeros};
 ghost use Rattle.page_map.specs.Takes.{grant};
 ghost use Rattle.page_map.specs.Access.{allows, refused_at};
-ghost use Rattle.plain_spaces.specs.Owners.{unused_of};
+ghost use Rattle.plain_counts.specs.Owners.{unused_of};
 ghost use Rattle.plain_spaces.specs.Reach.{last_page, IsUserAccess, beyond, wanting, refused_in, given, brought, one_at, IsCounted, Leaves, Follows};
 ghost use Rattle.plain_spaces.specs.declared.plan.Want.TheVariants.{Nothing};
 ghost use Rattle.plain_spaces.specs.Wants.{want_of, is_wanting, HasBody, Suits, IsPlan, refusal_of};
 
 use crate::access::{Access, Stop};
-use crate::owners::Owners;
 use crate::space::AddressSpace;
 use corten_base::{PageBuf, Perm, Reply};
 use file_shelf::{FilePage, Shelf};
 use page_map::Cell;
+use plain_counts::Owners;
 use std::alloc::{AllocError, Global};
 use std::mem;
 
@@ -79,7 +79,7 @@ impl Want {
 }
 
 /// The permissions of a page.
-fn permissions(cell: &Cell) -> Perm
+pub(crate) fn permissions(cell: &Cell) -> Perm
     ensures { result ≡ perm_of cell.now }
 {
     match cell {

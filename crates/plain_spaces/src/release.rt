@@ -4,9 +4,9 @@ ghost use Rattle.page_map.specs.Cell.{frame_of, slot_of};
 ghost use Rattle.page_map.specs.Change.{change};
 ghost use Rattle.plain_spaces.specs.Reach.{IsCounted, Leaves, Follows};
 
-use crate::owners::Owners;
 use crate::space::AddressSpace;
 use page_map::Cell;
+use plain_counts::Owners;
 
 /// Takes the number of a cell from one of the keys that carry it.
 pub(crate) fn give_up(cell: &Cell, frames: &mut Owners, slots: &mut Owners)

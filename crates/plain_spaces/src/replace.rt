@@ -9,11 +9,11 @@ ghost use Rattle.page_map.specs.Change.{change};
 ghost use Rattle.plain_spaces.specs.NewPages.{Fits, AreWithin, new_at};
 ghost use Rattle.plain_spaces.specs.Reach.{IsCounted, Follows, Keeps};
 
-use crate::owners::Owners;
 use crate::release::give_up;
 use crate::space::{AddressSpace, new_cell};
 use corten_base::{Backing, Perm};
 use page_map::Cell;
+use plain_counts::Owners;
 use std::alloc::{AllocError, Global};
 use std::mem;
 
@@ -61,7 +61,7 @@ impl AddressSpace {
     }
 
     /// Takes out the cells of pages.
-    fn remove_all(&mut self, pages: &[u64])
+    pub fn remove_all(&mut self, pages: &[u64])
         ensures { (q : ℕ) → map.get self.new q ≡ cond (list_any (nat_eq q) pages.now) None (map.get self.old q) }
     {
         for page in pages {
@@ -102,7 +102,7 @@ impl AddressSpace {
     }
 
     /// Puts new cells in the place of those of a range, which lose their numbers.
-    fn overwrite(&mut self, new: NewPages, frames: &mut Owners, slots: &mut Owners)
+    pub fn overwrite(&mut self, new: NewPages, frames: &mut Owners, slots: &mut Owners)
         requires fits { Fits new }
         requires frames { IsCounted frame_of frames.old self.old }
         requires slots { IsCounted slot_of slots.old self.old }

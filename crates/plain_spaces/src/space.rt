@@ -11,17 +11,16 @@ ghost use Rattle.page_map.specs.Change.{change, least};
 ghost use Rattle.page_map.specs.Mapping.{arena_first, backed, gap, is_free};
 ghost use Rattle.plain_spaces.specs.Backing.{index_of};
 ghost use Rattle.plain_spaces.specs.Lending.{LendsCell};
-ghost use Rattle.plain_spaces.specs.Fronts.{IsFull};
+ghost use Rattle.plain_counts.specs.Fronts.{IsFull};
 
 use corten_base::{Backing, Perm, Status};
 use page_map::Cell;
+use plain_counts::ARENA_PAGES;
 use std::alloc::{AllocError, Global};
 use std::collections::BTreeMap;
 use std::marker::Model;
 
-/// The pages of a thread's arena.
-pub(crate) const ARENA_PAGES: u64 = 1 << 27;
-
+/// The cells of one space, by page.
 #[derive(Drop)]
 pub struct AddressSpace {
     cells: BTreeMap<u64, Cell>,
@@ -42,7 +41,7 @@ impl Model for AddressSpace {
 }
 
 /// The cell of the page that stands so many pages after the first of a new mapping.
-pub(crate) fn new_cell(backing: Backing, perm: Perm, place: u64) -> Cell
+pub fn new_cell(backing: Backing, perm: Perm, place: u64) -> Cell
     requires { index_of backing + place < 2 ^ 64 }
     ensures { result ≡ backed backing perm place }
 {
@@ -167,7 +166,7 @@ impl AddressSpace {
     }
 
     /// Puts a cell at a page.
-    pub(crate) fn insert(&mut self, page: u64, cell: Cell) -> Result<(), AllocError>
+    pub fn insert(&mut self, page: u64, cell: Cell) -> Result<(), AllocError>
         ensures ok { OnOk result (self.new ≡ map.insert self.old page cell) }
         ensures err { OnErr result (self.new ≡ self.old) }
     {

@@ -1,8 +1,9 @@
 //! The spaces that are present, by number.
-ghost use Rattle.std.specs.Prelude.{◌≡◌, ℕ, ◌<◌, OnOk, OnErr};
+ghost use Rattle.std.specs.Prelude.{◌≡◌, ℕ, ◌<◌, not, OnOk, OnErr};
 ghost use Rattle.std.specs.Option.{option_copied, option_copied_mut};
 ghost use Rattle.std.specs.Borrow.{sem};
 ghost use Rattle.std.specs.FinMap as map;
+ghost use Rattle.page_map.specs.Change.{least};
 ghost use Rattle.plain_spaces.specs.Lending.{LendsSpace};
 
 use crate::space::AddressSpace;
@@ -63,5 +64,25 @@ impl Spaces {
     {
         self.spaces.insert(space, cells)?;
         Ok(())
+    }
+
+    /// Takes out the cells of a space, which is absent from then on.
+    pub fn remove(&mut self, space: u8) -> Option<AddressSpace>
+        ensures value { result ≡ map.get self.old space }
+        ensures spaces { self.new ≡ map.remove self.old space }
+    {
+        self.spaces.remove(&space)
+    }
+
+    /// The least space that is absent.
+    pub fn least_absent(&self) -> Option<u8>
+        ensures { result ≡ least 0 64 (λ space. not (map.contains_key self.now space)) }
+    {
+        for space in 0..64 {
+            if self.get(space).is_none() {
+                return Some(space);
+            }
+        }
+        None
     }
 }

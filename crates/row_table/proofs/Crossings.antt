@@ -12,7 +12,7 @@ use Rattle.row_layout.specs.declared.places.Layout.{Layout}
 use Rattle.row_table.specs.declared.view.PassView.{PassView}
 use Rattle.row_table.specs.Plan.{Meaning}
 use Rattle.row_table.specs.Rows.{lock_of, generation_of}
-use Rattle.row_table.specs.Rule.{Homes, Seat, Table, levels, view, IsOne, core_of, Contents, Knows, Holds}
+use Rattle.row_table.specs.Rule.{Homes, Seat, Table, levels_of, view, IsOne, core_of, Contents, Knows, Holds}
 use Rattle.row_table.specs.Crossings.{entered, left, CrossTells, EpochTells}
 use Rattle.row_table.proofs.Shown.{ShowsSame, shows_same}
 use Rattle.row_table.proofs.Frames.{RowHome, words_after, moved, unchanged, home_of, home_moves}
@@ -29,11 +29,14 @@ module _ {R B E : Type 0} (M : Meaning R B E) where
     knows_epoch : (first b : B) (u : PassView R B E) (e : ℕ) → get_or us (epoch_at k.rows u.number) 0 ≡ e → Knows M k first ws b u → Knows M k first us b (record u { epoch = e })
     knows_epoch first b u e is old = record {
       there = old.there;
+      layout = old.layout;
       epoch = is;
       held = old.held;
       rows = λ y i. let o = old.rows y i in let z = rows_show y.row o.there in record { there = o.there; shown = z.words ∙ o.shown; place = z.place ∙ o.place; agrees = o.agrees };
       granted = old.granted;
       hand = λ y i. let o = old.hand y i in record { there = o.there; shown = (rows_show y.row o.there).generation ∙ o.shown; below = o.below; fresh = o.fresh };
+      vacant = old.vacant;
+      placed = λ y i p z. (rows_show y.row (old.hand y i).there).place ∙ old.placed y i p z;
       found = old.found;
       origin = old.origin;
       seen = old.seen;
@@ -58,7 +61,7 @@ module _ {R B E : Type 0} (M : Meaning R B E) where
   crosses : (k : Layout) (first : B) (slots id : ℕ) (m : Seat R B E) (n : ℕ) (e : ℕ → Event) (f : PassView R B E → PassView R B E) → IsOne n m
       → ((p : ℕ) → pass_of (e p) ≡ p) → ((p : ℕ) → place_of k.rows k.passes (e p) ≡ epoch_at k.rows p) → ((p y : ℕ) → number_after (e p) y ≡ (y + 1) % 2 ^ 64)
       → ((p : ℕ) (free : List ℕ) → free_after (e p) free ≡ free) → ((p : ℕ) (limbo : List _) → limbo_after (e p) limbo ≡ limbo)
-      → ((f (view m)).number ≡ (view m).number) → ((p y : ℕ) → (f (view m)).core ≡ pass_after levels (e p) y (view m).core)
+      → ((f (view m)).number ≡ (view m).number) → ((p y : ℕ) → (f (view m)).core ≡ pass_after (levels_of k) (e p) y (view m).core)
       → ((s : Table R B E) (h : Holds M k first s) → get_or s.words (epoch_at k.rows (view m).number) 0 ≡ (view m).epoch → Guard (core_of M k s.words h.passes h.free h.book) (view m).core (e (view m).number))
       → ((b : B) (ws : List ℕ) → get_or ws (epoch_at k.rows (view m).number) 0 ≡ (view m).epoch + 1 → Knows M k first ws b (record (view m) { epoch = (view m).epoch + 1 }) → Knows M k first ws b (f (view m)))
       → Allows (Holds M k first) slots id m (epoch_at k.rows n) (λ y. (y + 1) % 2 ^ 64) (CrossTells f m)
@@ -101,13 +104,13 @@ module _ {R B E : Type 0} (M : Meaning R B E) where
       → Allows (Holds M k first) slots id m (epoch_at k.rows n) (λ y. (y + 1) % 2 ^ 64) (CrossTells entered m)
   enters k first slots id m n one outside low = crosses k first slots id m n (λ p. Enter p) entered one (λ p. refl) (λ p. refl) (λ p y. refl) (λ p free. refl) (λ p limbo. refl) refl (λ p y. refl)
       (λ s h is. (outside, subst (λ (y : ℕ). y < 2 ^ 62) (sym is) low))
-      (λ b ws is old. record { there = old.there; epoch = old.epoch; held = old.held; rows = λ y i. let o = old.rows y i in record { there = o.there; shown = o.shown; place = o.place; agrees = o.agrees }; granted = old.granted; hand = old.hand; found = old.found; origin = old.origin; seen = old.seen; mine = old.mine })
+      (λ b ws is old. record { there = old.there; layout = old.layout; epoch = old.epoch; held = old.held; rows = λ y i. let o = old.rows y i in record { there = o.there; shown = o.shown; place = o.place; agrees = o.agrees }; granted = old.granted; hand = old.hand; vacant = old.vacant; placed = old.placed; found = old.found; origin = old.origin; seen = old.seen; mine = old.mine })
 
   pub leaves : (k : Layout) (first : B) (slots id : ℕ) (m : Seat R B E) (n : ℕ) → IsOne n m → IsSome (view m).core.stand
       → Allows (Holds M k first) slots id m (epoch_at k.rows n) (λ y. (y + 1) % 2 ^ 64) (CrossTells left m)
   leaves k first slots id m n one inside = crosses k first slots id m n (λ p. Leave p) left one (λ p. refl) (λ p. refl) (λ p y. refl) (λ p free. refl) (λ p limbo. refl) refl (λ p y. refl)
       (λ s h is. inside)
-      (λ b ws is old. record { there = old.there; epoch = old.epoch; held = old.held; rows = λ y i. let o = old.rows y i in record { there = o.there; shown = o.shown; place = o.place; agrees = o.agrees }; granted = old.granted; hand = old.hand; found = old.found; origin = old.origin; seen = old.seen; mine = old.mine })
+      (λ b ws is old. record { there = old.there; layout = old.layout; epoch = old.epoch; held = old.held; rows = λ y i. let o = old.rows y i in record { there = o.there; shown = o.shown; place = o.place; agrees = o.agrees }; granted = old.granted; hand = old.hand; vacant = old.vacant; placed = old.placed; found = old.found; origin = old.origin; seen = old.seen; mine = old.mine })
 
   -- a load of the own epoch word
   pub reads_epoch : (k : Layout) (first : B) (slots id : ℕ) (m : Seat R B E) (n : ℕ) → IsOne n m → Allows (Holds M k first) slots id m (epoch_at k.rows n) (λ y. y) (EpochTells m)

@@ -16,13 +16,11 @@ use Rattle.table_place.specs.declared.Place.{Place}
 use Rattle.walk_core.specs.declared.event.Event.TheVariants.{Grab, Release}
 use Rattle.walk_core.specs.declared.pass.PassCore.{PassCore}
 use Rattle.walk_core.specs.Words.{lock_at, stale}
-use Rattle.walk_core.specs.Lists.{times, Has, without}
-use Rattle.walk_core.specs.Core.{Core, pass_at, idle, times_in_hand}
+use Rattle.walk_core.specs.Lists.{Has, without}
+use Rattle.walk_core.specs.Core.{Core, pass_at, times_in_hand}
 use Rattle.walk_core.specs.Guards.{StandsOn, HoldsLinker}
-use Rattle.std.proofs.lemmas.Bool.{cases_lt}
-use Rattle.std.proofs.lemmas.List.{get_or_past}
 use Rattle.walk_core.proofs.RowLists.{times-nil}
-use Rattle.walk_core.specs.Good.{Good, LockSays, says_free, says_held, says_stale}
+use Rattle.walk_core.specs.Good.{LockSays, says_free, says_held, says_stale}
 use Rattle.walk_core.proofs.Facts.{free_unheld, free_linked}
 use Rattle.walk_core.proofs.KeepsLocks.{grabbed_there}
 use Rattle.row_layout.specs.declared.places.Layout.{Layout}
@@ -31,16 +29,13 @@ use Rattle.row_table.specs.declared.view.HeldRow.{HeldRow}
 use Rattle.row_table.specs.declared.plan.Content.TheVariants.{Row}
 use Rattle.row_table.specs.Plan.{Meaning}
 use Rattle.row_table.specs.Rows.{row_words, place_at}
-use Rattle.row_table.specs.Rule.{Slot, Homes, Seat, view, IsOne, row_part, core_of, Agrees, IsHeldRow, Knows, Holds}
+use Rattle.row_table.specs.Rule.{Slot, Homes, Seat, levels_of, view, IsOne, row_part, core_of, Agrees, IsHeldRow, Knows, Holds}
+use Rattle.row_table.specs.Vacant.{KeepsVacant}
 use Rattle.row_table.specs.Moves.{grabbed, looked, got, released, NotInHand, GrabSays, GrabTells, ReleaseTells, MayGrab, Fits}
 use Rattle.row_table.proofs.Shown.{ShowSame, lock_shows}
 use Rattle.row_table.proofs.Frames.{RowHome, moved_here, knows_shown, contents_locked, home_of, home_moves}
+use Rattle.row_table.proofs.Known.{held_below, place_known, links_below, loose_row, holder_of}
 use Rattle.row_table.proofs.Views.{kept, rows_without, pass_is, is_linked, not_in_hand, guard_grab, has_held}
-
--- a pass that holds a row is there
-pub held_below : (c : Core) (p r : ℕ) → Good c → Has (pass_at c p).held r → p < c.count
-held_below c p r g has = ⊎_elim (λ (less : p < c.count). less)
-    (λ past. let all = g.sizes.passes in let none = ap (λ (u : PassCore). times r u.held) (get_or_past c.passes p idle (omega arith)) ∙ times-nil r in absurd (omega arith)) (cases_lt p c.count)
 
 -- a row's lock word is at most that of a row that nobody may take
 lock_small : (c : Core) (r w few : ℕ) → few < 256 → ((p : ℕ) → Has (pass_at c p).held r → p < few) → LockSays c r w → w ≤ stale
@@ -58,14 +53,20 @@ module _ {R B E : Type 0} (M : Meaning R B E) where
       let w : PassView R B E = got v r (place_at ws r) (row_words ws r) x in
       let z = shows.rows r less in record {
         there = now.there;
+        layout = now.layout;
         epoch = now.epoch;
         held = map-append row_part v.rows (g ∷ []) ∙ ap (λ (l : List ℕ). l ++ r ∷ []) now.held;
         rows = λ y i. ⊎_elim
             (λ (j : Contains v.rows y). let o = now.rows y j in record { there = o.there; shown = o.shown; place = o.place; agrees = o.agrees })
-            (λ (e : g ≡ y). subst (λ (u : HeldRow R). IsHeldRow M k us b w u) e (record { there = less; shown = z.words; place = z.place; agrees = λ _. record { found = λ _. agrees; given = λ f. absurd (cc) } }))
+            (λ (e : g ≡ y). subst (λ (u : HeldRow R). IsHeldRow M k us b w u) e (record { there = less; shown = z.words; place = z.place; agrees = λ _. record { found = λ _ y is. (let same : x ≡ y = cc in subst (λ (u : R). M.agrees b (place_at ws r) (row_words ws r) u) same agrees); given = λ f. absurd (cc) } }))
             (Contains-push_cases v.rows g y i);
         granted = now.granted;
         hand = now.hand;
+        vacant = λ y i. ⊎_elim (now.vacant y)
+            (λ (e : g ≡ y). subst (λ (u : HeldRow R). times_in_hand u.row v.core ≡ 0 → KeepsVacant M (levels_of k) b v.last u) e
+            (λ _. record { vacant = λ j has. let n = times-nil j in absurd (omega arith); keeps = λ j has. let n = times-nil j in absurd (omega arith) }))
+            (Contains-push_cases v.rows g y i);
+        placed = now.placed;
         found = now.found;
         origin = now.origin;
         seen = now.seen;
@@ -77,11 +78,14 @@ module _ {R B E : Type 0} (M : Meaning R B E) where
   holds_less k first ws us b v r shows old =
       let now = knows_shown M k first ws us b v shows old in record {
         there = now.there;
+        layout = now.layout;
         epoch = now.epoch;
         held = rows_without r v.rows ∙ ap (without r) now.held;
         rows = λ y i. let o = now.rows y (kept (λ (u : HeldRow R). not (eqb u.row r)) v.rows y i).1 in record { there = o.there; shown = o.shown; place = o.place; agrees = o.agrees };
         granted = now.granted;
         hand = now.hand;
+        vacant = λ y i. now.vacant y (kept (λ (u : HeldRow R). not (eqb u.row r)) v.rows y i).1;
+        placed = now.placed;
         found = now.found;
         origin = now.origin;
         seen = now.seen;
@@ -94,7 +98,7 @@ module _ {R B E : Type 0} (M : Meaning R B E) where
       let y : HeldRow R = fits.known in let o = know.rows y fits.held in
       let agrees : Agrees M b v.last y = o.agrees (ap (λ (q : ℕ). times_in_hand q v.core) fits.same_row ∙ linked) in
       let at : M.agrees b y.place y.words x = ⊎_elim
-      (λ (z : (y.is_given ≡ false) × (x ≡ y.found) × (y.words ≡ y.words_found)). subst (λ (u : R). M.agrees b y.place y.words u) (sym z.1) (subst (λ (ws : List ℕ). M.agrees b y.place ws y.found) (sym z.2) (agrees.found z.0)))
+      (λ (z : (y.is_given ≡ false) × (y.found ≡ Some x) × (y.words ≡ y.words_found)). subst (λ (ws : List ℕ). M.agrees b y.place ws x) (sym z.2) (agrees.found z.0 x z.1))
       (λ (z : (y.is_given ≡ true) × ((book : B) × (v.last ≡ Some book) × M.agrees book y.place y.words x)). agrees.given z.0 z.1.0 z.1.1 y.words x z.1.2)
       fits.content_fits in
       subst (λ (q : ℕ). M.agrees b (place_at ws q) (row_words ws q) x) fits.same_row
@@ -138,7 +142,9 @@ module _ {R B E : Type 0} (M : Meaning R B E) where
               (λ _. (
                 record {
                   place = place;
+                  known = place_known M k first s h v mine r;
                   words = words;
+                  below = links_below M k first s h v mine r less;
                   content = t.0;
                   linked = not_in_hand M k first s h v mine r linked;
                   once = λ has. let there = has_held M k first s h v mine r has in omega arith;
@@ -163,10 +169,21 @@ module _ {R B E : Type 0} (M : Meaning R B E) where
             (subst (RowHome M k (set s.words (lock_at r) (either (eqb found 0) (n + 1) found)) h.book s.homes r) (sym number)
             (home_moves M k s.words (set s.words (lock_at r) (either (eqb found 0) (n + 1) found)) h.book h.book s.homes s.homes r found (shows.rows r less) refl (λ _ _ a. a) (home_of M h.contents r less))))
             shows
-            (record { there = now.there; epoch = now.epoch; held = now.held; rows = λ y i. let o = now.rows y i in record { there = o.there; shown = o.shown; place = o.place; agrees = o.agrees }; granted = now.granted; hand = now.hand; found = now.found; origin = now.origin; seen = now.seen; mine = now.mine }),
+            (record { there = now.there; layout = now.layout; epoch = now.epoch; held = now.held; rows = λ y i. let o = now.rows y i in record { there = o.there; shown = o.shown; place = o.place; agrees = o.agrees }; granted = now.granted; hand = now.hand; vacant = now.vacant; placed = now.placed; found = now.found; origin = now.origin; seen = now.seen; mine = now.mine }),
         λ q same. let e : r ≡ q = omega arith in
-            subst (GrabSays m found (w ∷ [], m.1)) e
-            ((λ z. absurd (miss z)), λ _. (place, lock_small c r found k.passes (omega arith) (λ p has. held_below c p r h.good has) (h.good.locks.rows.each r less), refl)),
+            subst (GrabSays m found (w ∷ [], m.1)) e (
+              (λ z. absurd (miss z)),
+              λ _. (
+                record {
+                  place = place;
+                  known = place_known M k first s h v mine r;
+                  small = lock_small c r found k.passes (omega arith) (λ p has. held_below c p r h.good has) (h.good.locks.rows.each r less);
+                  loose = λ z. loose_row M k first s h v mine r less z;
+                  taken = λ ns. holder_of M k first s h v mine r found less refl miss ns;
+                },
+                refl,
+              ),
+            ),
       ))
 
   pub releases : (k : Layout) (first : B) (slots id : ℕ) (m : Seat R B E) (n r : ℕ) (x : R) → IsOne n m → Has (view m).core.held r → NotInHand (view m) r → Fits M (view m) r x → m.1 ≡ (r, Some (Row x)) ∷ rest m.1

@@ -16,7 +16,7 @@ use Rattle.row_table.specs.declared.view.PassView.{PassView}
 use Rattle.row_table.specs.declared.view.HeldRow.{HeldRow}
 use Rattle.row_table.specs.Plan.{Meaning, Covers, IsOutside, IsUntouched}
 use Rattle.row_table.specs.Rows.{place_at}
-use Rattle.row_table.specs.Rule.{Table, core_of, Holds}
+use Rattle.row_table.specs.Rule.{Table, levels_of, core_of, Holds}
 use Rattle.row_table.specs.Moves.{NotInHand}
 use Rattle.row_table.specs.Books.{IsHeldAt, IsBelow, region}
 use Rattle.row_table.proofs.Shown.{word_at}
@@ -37,7 +37,7 @@ module _ {R B E : Type 0} (M : Meaning R B E) (k : Layout) (first : B) (s : Tabl
   abbrev held : ℕ → Type 0
   held r = Has v.core.held r
 
-  decide : (r : ℕ) → held r ⊎ ¬ held r
+  pub decide : (r : ℕ) → held r ⊎ ¬ held r
   decide r = dite (ℕ_discrete (times r v.core.held) 0) (λ z. inr (λ i. omega arith)) (λ nz. inl (omega arith))
 
   -- a held and linked row stands in the view with its position
@@ -49,10 +49,10 @@ module _ {R B E : Type 0} (M : Meaning R B E) (k : Layout) (first : B) (s : Tabl
       (o.0, o.1, o.2, ap (λ (q : ℕ). times_in_hand q v.core) o.2 ∙ not_in_hand M k first s h v mine r l, sym is.place ∙ ap (place_at s.words) o.2)
 
   -- a row of the view that is not in the hand is linked
-  row_linked : (x : HeldRow R) → Contains v.rows x → NotInHand v x.row → IsLinked c x.row × held x.row × (place_in c x.row ≡ x.place)
+  pub row_linked : (x : HeldRow R) → Contains v.rows x → NotInHand v x.row → IsLinked c x.row × held x.row × (place_in c x.row ≡ x.place)
   row_linked x i out = let has = held_of_row M k first s h v mine x i in (is_linked M k first s h v mine x.row has out, has, ((knows_it M k first s h v mine).rows x i).place)
 
-  below_it : (q : ℕ) → Below h.good held decide q → IsOutside (region v) (place_in c q)
+  pub below_it : (q : ℕ) → Below h.good held decide q → IsOutside (region v) (place_in c q)
   below_it q b space page at =
       let x = view_row b.row b.is_held b.linked in
       let know = (knows_it M k first s h v mine).rows x.0 x.1 in
@@ -66,7 +66,7 @@ module _ {R B E : Type 0} (M : Meaning R B E) (k : Layout) (first : B) (s : Tabl
         inside = b.inside;
         link = ap is_link found ∙ b.link;
         child_held = subst (λ (n : ℕ). ¬ Has v.core.held (link_row n)) (sym found) b.child_held;
-        place = b.child_place ∙ ap (λ (p : Place). entry_place 4 p b.index) (sym x.4);
+        place = b.child_place ∙ (λ j. entry_place (levels_of (sym (knows_it M k first s h v mine).layout j)) (sym x.4 j) b.index);
       } in
       λ inside. let clash : true ≡ false = sym (b.covers space page at) ∙ inside.1 (place_in c child) below in cc
 

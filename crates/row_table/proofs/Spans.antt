@@ -27,7 +27,7 @@ level_of levels p h =
     let inner = and_parts (within 1 levels p.level) (Rattle.std.specs.Prelude.nat_lt p.prefix (512 ^ (levels - p.level))) outer.1 in
     let depth = in_range 1 levels p.level inner.0 in (depth.0, let d = depth.1 in omega arith)
 
-below_is : (levels : ℕ) (p : Place) (i : ℕ) → p.level < 6 → entry_place levels p i ≡ record { space = p.space; level = p.level - 1; prefix = 512 * p.prefix + i }
+pub below_is : (levels : ℕ) (p : Place) (i : ℕ) → p.level < 6 → entry_place levels p i ≡ record { space = p.space; level = p.level - 1; prefix = 512 * p.prefix + i }
 below_is levels p i low = cond-false (is_directory p) _ _ (no_directory p low)
 
 -- a page of an entry's table is a page of the table

@@ -26,9 +26,9 @@ use Rattle.row_table.specs.declared.view.PassView.{PassView}
 use Rattle.row_table.specs.declared.plan.Content.TheVariants.{Row, Book}
 use Rattle.row_table.specs.Plan.{Meaning, IsLawful}
 use Rattle.row_table.specs.Rows.{row_words, place_at, lock_of, generation_of}
-use Rattle.row_table.specs.Rule.{Slot, Seat, Homes, Table, levels, SameRows, unmoved, boot_from, boot_views, core_part, core_of, Seats, Contents, Knows, Holds}
+use Rattle.row_table.specs.Rule.{Slot, Seat, Homes, Table, levels_of, SameRows, unmoved, boot_from, boot_views, core_part, core_of, Seats, Contents, Knows, Holds}
 use Rattle.row_table.specs.Start.{start_words, row_slot, start_slots, MayStart, first_pass, other_passes}
-use Rattle.row_table.proofs.Locks.{held_below}
+use Rattle.row_table.proofs.Known.{held_below}
 
 at_end : {A : Type 0} (l : List A) (a b : A) (j : ℕ) → get_elem? (l ++ a ∷ []) j ≡ some b → (get_elem? l j ≡ some b) ⊎ ((j ≡ length l) × (a ≡ b))
 at_end [] a b zero e = inr (refl, some-injective a b e)
@@ -80,21 +80,21 @@ module _ {R B E : Type 0} where
           go zero f = let t = seats id (v ∷ vs) me 0 u f in (refl, t.0, t.1)
           go (suc i) f = absurd (some-ne-none u (sym f))
 
-  new_at : (origin : Option B) (p n i : ℕ) (v : PassView R B E) → get_elem? (boot_from {R = R} {E = E} origin p n) i ≡ some v → (v ≡ unmoved origin (p + i)) × (i < n)
-  new_at origin p zero i v e = absurd (some-ne-none v (sym e))
-  new_at origin p (suc n) zero v e = (sym (some-injective (unmoved origin p) v e) ∙ ap (unmoved origin) (let t : p ≡ p + 0 = omega arith in t), omega arith)
-  new_at origin p (suc n) (suc i) v e = let t = new_at origin (p + 1) n i v e in (t.0 ∙ ap (unmoved origin) (let t : p + 1 + i ≡ p + suc i = omega arith in t), let h = t.1 in omega arith)
+  new_at : (k : Layout) (origin : Option B) (p n i : ℕ) (v : PassView R B E) → get_elem? (boot_from {R = R} {E = E} k origin p n) i ≡ some v → (v ≡ unmoved k origin (p + i)) × (i < n)
+  new_at k origin p zero i v e = absurd (some-ne-none v (sym e))
+  new_at k origin p (suc n) zero v e = (sym (some-injective (unmoved k origin p) v e) ∙ ap (unmoved k origin) (let t : p ≡ p + 0 = omega arith in t), omega arith)
+  new_at k origin p (suc n) (suc i) v e = let t = new_at k origin (p + 1) n i v e in (t.0 ∙ ap (unmoved k origin) (let t : p + 1 + i ≡ p + suc i = omega arith in t), let h = t.1 in omega arith)
 
-  seats_new : (origin : Option B) (n : ℕ) → Seats {R = R} {E = E} (boot_from origin 0 n ∷ []) (boot_from origin 0 n) (λ p. (0, p))
-  seats_new origin n zero vs e i v f =
-      let at : get_elem? (boot_from {R = R} {E = E} origin 0 n) i ≡ some v = subst (λ (x : List (PassView R B E)). get_elem? x i ≡ some v) (sym (some-injective (boot_from origin 0 n) vs e)) f in
-      let is : v.number ≡ i = ap (λ (x : PassView R B E). x.number) (new_at origin 0 n i v at).0 ∙ (let t : 0 + i ≡ i = omega arith in t) in
-      (ap (λ (x : ℕ). get_elem? (boot_from {R = R} {E = E} origin 0 n) x) is ∙ at, λ k. (0, is k))
-  seats_new origin n (suc j) vs e i v f = absurd (some-ne-none vs (sym e))
+  seats_new : (k : Layout) (origin : Option B) (n : ℕ) → Seats {R = R} {E = E} (boot_from k origin 0 n ∷ []) (boot_from k origin 0 n) (λ p. (0, p))
+  seats_new k origin n zero vs e i v f =
+      let at : get_elem? (boot_from {R = R} {E = E} k origin 0 n) i ≡ some v = subst (λ (x : List (PassView R B E)). get_elem? x i ≡ some v) (sym (some-injective (boot_from k origin 0 n) vs e)) f in
+      let is : v.number ≡ i = ap (λ (x : PassView R B E). x.number) (new_at k origin 0 n i v at).0 ∙ (let t : 0 + i ≡ i = omega arith in t) in
+      (ap (λ (x : ℕ). get_elem? (boot_from {R = R} {E = E} k origin 0 n) x) is ∙ at, λ k. (0, is k))
+  seats_new k origin n (suc j) vs e i v f = absurd (some-ne-none vs (sym e))
 
-cores_new : (R B E : Type 0) (origin : Option B) (p n : ℕ) → replicate n idle ≡ map core_part (boot_from {R = R} {E = E} origin p n)
-cores_new R B E origin p zero = refl
-cores_new R B E origin p (suc n) = ap (λ (l : List PassCore). idle ∷ l) (cores_new R B E origin (p + 1) n)
+cores_new : (R B E : Type 0) (k : Layout) (origin : Option B) (p n : ℕ) → replicate n idle ≡ map core_part (boot_from {R = R} {E = E} k origin p n)
+cores_new R B E k origin p zero = refl
+cores_new R B E k origin p (suc n) = ap (λ (l : List PassCore). idle ∷ l) (cores_new R B E k origin (p + 1) n)
 
 -- The words at the start
 
@@ -103,14 +103,15 @@ sum_by-same f zero a none = refl
 sum_by-same f (suc n) a none = let here = sum_by-cons f a (replicate n a) in let rest = sum_by-same f n a none in omega arith
 
 module _ (k : Layout) (is : IsLayout k) where
-  may : MayBoot levels k.rows k.passes
+  may : MayBoot (levels_of k) k.rows k.passes
+  unfolding levels_of
   may = record { some_levels = inl refl; rows_low = is.0; rows_high = is.1; count_low = is.2; count_high = is.3 }
 
   abbrev c : Core
-  c = boot levels k.rows k.passes
+  c = boot (levels_of k) k.rows k.passes
 
   good : Good c
-  good = boot_good levels k.rows k.passes may
+  good = boot_good (levels_of k) k.rows k.passes may
 
   free_is : (r : ℕ) → times_out c r ≡ times r (range_with_len 2 (k.rows - 2))
   unfolding boot times_out
@@ -126,11 +127,15 @@ module _ (k : Layout) (is : IsLayout k) where
 
   pub long_is : length (start_words k) ≡ word_count k.rows k.passes
   unfolding boot
-  long_is = length-map (range_with_len 0 (word_count k.rows k.passes)) (boot_word levels k.rows) ∙ length-range_with_len 0 (word_count k.rows k.passes)
+  long_is = length-map (range_with_len 0 (word_count k.rows k.passes)) (boot_word (levels_of k) k.rows) ∙ length-range_with_len 0 (word_count k.rows k.passes)
+
+  levels_four : levels_of k ≡ 4
+  unfolding levels_of
+  levels_four = refl
 
   -- the words that were read one by one
-  pub words_listed : (d : Core) (ws : List ℕ) (n : ℕ) → d ≡ c → n ≡ word_count k.rows k.passes → ws ≡ map (word d) (range_with_len 0 n) → ws ≡ start_words k
-  words_listed d ws n same all is = is ∙ (ap (λ (x : Core). map (word x) (range_with_len 0 n)) same
+  pub words_listed : (d : Core) (ws : List ℕ) (n : ℕ) → d ≡ boot 4 k.rows k.passes → n ≡ word_count k.rows k.passes → ws ≡ map (word d) (range_with_len 0 n) → ws ≡ start_words k
+  words_listed d ws n same all is = is ∙ (ap (λ (x : Core). map (word x) (range_with_len 0 n)) (same ∙ ap (λ (n : ℕ). boot n k.rows k.passes) (sym levels_four))
       ∙ sym (fill_by_all (word c) (start_words k) n 0 (long_is ∙ sym all) (λ i _. refl)))
 
   zero_low : (r : ℕ) → r < k.rows → lock_of (start_words k) r ≡ 0 → r < 2
@@ -147,22 +152,22 @@ module _ (k : Layout) (is : IsLayout k) where
 
   generation_low : (r : ℕ) → r < k.rows → generation_of (start_words k) r < 2
   generation_low r less = dite (ℕ_discrete r 1)
-      (λ e. let at : generation_of (start_words k) r ≡ 1 = ap (generation_of (start_words k)) e ∙ word_is levels k.rows k.passes may 1029 (let low = is.0 in omega arith) in omega arith)
-      (λ ne. let at : generation_of (start_words k) r ≡ 0 = word_is levels k.rows k.passes may (generation_at r) (omega arith) ∙ boot_zero levels k.rows (generation_at r) (λ e. omega arith) (λ e. omega arith) (λ e. omega arith) (λ e. omega arith) (λ e. omega arith) in omega arith)
+      (λ e. let at : generation_of (start_words k) r ≡ 1 = ap (generation_of (start_words k)) e ∙ word_is (levels_of k) k.rows k.passes may 1029 (let low = is.0 in omega arith) in omega arith)
+      (λ ne. let at : generation_of (start_words k) r ≡ 0 = word_is (levels_of k) k.rows k.passes may (generation_at r) (omega arith) ∙ boot_zero (levels_of k) k.rows (generation_at r) (λ e. omega arith) (λ e. omega arith) (λ e. omega arith) (λ e. omega arith) (λ e. omega arith) in omega arith)
 
   epoch_zero : (p : ℕ) → p < k.passes → get_or (start_words k) (epoch_at k.rows p) 0 ≡ 0
-  epoch_zero p less = let low = is.0 in let few = is.3 in word_is levels k.rows k.passes may (epoch_at k.rows p) (omega arith)
-      ∙ boot_zero levels k.rows (epoch_at k.rows p) (λ e. omega arith) (λ e. omega arith) (λ e. omega arith) (λ e. omega arith) (λ e. omega arith)
+  epoch_zero p less = let low = is.0 in let few = is.3 in word_is (levels_of k) k.rows k.passes may (epoch_at k.rows p) (omega arith)
+      ∙ boot_zero (levels_of k) k.rows (epoch_at k.rows p) (λ e. omega arith) (λ e. omega arith) (λ e. omega arith) (λ e. omega arith) (λ e. omega arith)
 
 module _ {R B E : Type 0} (M : Meaning R B E) where
-  core_new : (k : Layout) (ws : List ℕ) (book : B) → ws ≡ start_words k → M.limbo book ≡ [] → boot levels k.rows k.passes ≡ core_of M k ws (boot_views k book) (range_with_len 2 (k.rows - 2)) book
+  core_new : (k : Layout) (ws : List ℕ) (book : B) → ws ≡ start_words k → M.limbo book ≡ [] → boot (levels_of k) k.rows k.passes ≡ core_of M k ws (boot_views k book) (range_with_len 2 (k.rows - 2)) book
   unfolding boot
   core_new k ws book words limbo = λ i. record {
-    levels = levels;
+    levels = levels_of k;
     rows = k.rows;
     count = k.passes;
     words = sym words i;
-    passes = cores_new R B E (Some book) 0 k.passes i;
+    passes = cores_new R B E k (Some book) 0 k.passes i;
     free = range_with_len 2 (k.rows - 2);
     limbo = sym limbo i;
   }
@@ -184,8 +189,8 @@ module _ {R B E : Type 0} (M : Meaning R B E) where
         free = range_with_len 2 (k.rows - 2);
         same_free = from.free;
         slots = length-map slots some ∙ (ap length slots_are ∙ (length-append (map row_slot rows) (Some (Book book) ∷ []) ∙ ap (λ (x : ℕ). x + 1) (length-map rows row_slot ∙ from.each_row)));
-        seats = seats_new (Some book) k.passes;
-        numbers = λ p v e. ap (λ (x : PassView R B E). x.number) (new_at (Some book) 0 k.passes p v e).0 ∙ (let t : 0 + p ≡ p = omega arith in t);
+        seats = seats_new k (Some book) k.passes;
+        numbers = λ p v e. ap (λ (x : PassView R B E). x.number) (new_at k (Some book) 0 k.passes p v e).0 ∙ (let t : 0 + p ≡ p = omega arith in t);
         good = subst Good (core_new k ws book words_are from.limbo) (good k is);
         contents = record {
           linked = λ r less z. let t = row_at r less in let low = zero_low k is r less (sym (shown r less) ∙ z) in
@@ -195,14 +200,17 @@ module _ {R B E : Type 0} (M : Meaning R B E) where
         };
         generations = λ r less. let now = ap (λ (x : List ℕ). generation_of x r) words_are in let low = generation_low k is r less in let high = from.generation in omega arith;
         fixed = lawful.fixed_same book;
-        knows = λ p v e. let t = new_at (Some book) 0 k.passes p v e in let less = t.1 in
+        knows = λ p v e. let t = new_at k (Some book) 0 k.passes p v e in let less = t.1 in
             subst (Knows M k book ws book) (sym t.0) (record {
               there = omega arith;
+              layout = refl;
               epoch = ap (λ (x : List ℕ). get_or x (epoch_at k.rows (0 + p)) 0) words_are ∙ epoch_zero k is (0 + p) (omega arith);
               held = refl;
               rows = λ h i. let less = i.1 in absurd (omega arith);
               granted = refl;
               hand = λ x i. let less = i.1 in absurd (omega arith);
+              vacant = λ h i. let less = i.1 in absurd (omega arith);
+              placed = λ x i. let less = i.1 in absurd (omega arith);
               found = λ h. absurd (cc);
               origin = refl;
               seen = (M.journal book, refl);
@@ -233,8 +241,8 @@ if_ok P Q h (Err e) p = tt
 
 -- one pass after the other
 
-pub next_new : {R B E : Type 0} (origin : Option B) (n passes : ℕ) (m : Seat R B E) → n < passes → m ≡ (boot_from origin n (passes - n), []) → m ≡ (unmoved origin n ∷ boot_from origin (n + 1) (passes - (n + 1)), [])
-next_new {R} {B} {E} origin n passes m less is = is ∙ ap (λ (j : ℕ). (boot_from {R = R} {B = B} {E = E} origin n j, [])) (let e : passes - n ≡ suc (passes - (n + 1)) = omega arith in e)
+pub next_new : {R B E : Type 0} (k : Layout) (origin : Option B) (n passes : ℕ) (m : Seat R B E) → n < passes → m ≡ (boot_from k origin n (passes - n), []) → m ≡ (unmoved k origin n ∷ boot_from k origin (n + 1) (passes - (n + 1)), [])
+next_new {R} {B} {E} k origin n passes m less is = is ∙ ap (λ (j : ℕ). (boot_from {R = R} {B = B} {E = E} k origin n j, [])) (let e : passes - n ≡ suc (passes - (n + 1)) = omega arith in e)
 
 pub after_cut : {R B E : Type 0} (m m' : Seat R B E) (w : PassView R B E) (more : List (PassView R B E)) → m ≡ (w ∷ more, []) → m' ≡ (other_passes m.0, []) → m' ≡ (more, [])
 after_cut m m' w more is then = then ∙ ap (λ (y : Seat _ _ _). (other_passes y.0, [])) is

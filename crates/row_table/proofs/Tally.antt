@@ -36,7 +36,6 @@ may_add k v old new has grown names = record {
   };
   free = λ r. refl;
   limbo = refl;
-  blocked = λ _ e. absurd (cc);
 }
 
 pub may_start : (k : Layout) (rows : List ℕ) (book : Notes) → k.rows ≡ 2 → length rows ≡ k.rows → book.items ≡ [] → MayStart tally k rows book
@@ -50,8 +49,8 @@ may_start k rows book two long none = record {
   generation = omega arith;
 }
 
-pub new_idle : (book : Notes) (n : ℕ) (v : View) → v ≡ unmoved (Some book) n → IsIdle v
-new_idle book n v e = subst (λ (u : View). IsIdle u) (sym e) (record { outside = refl; held = refl; granted = refl; unlinked = refl; has_not = refl })
+pub new_idle : (k : Layout) (book : Notes) (n : ℕ) (v : View) → v ≡ unmoved k (Some book) n → IsIdle v
+new_idle k book n v e = subst (λ (u : View). IsIdle u) (sym e) (record { outside = refl; held = refl; granted = refl; unlinked = refl; has_not = refl })
 
 -- a pass that has nothing has nothing after it had the book
 pub idle_again : (v w u : View) (book new : Notes) → IsIdle v → w ≡ turned tally v book → Gives tally w new u → IsIdle u

@@ -3,12 +3,14 @@ use Rattle.std.proofs.Common.{◌≡◌, ◌≢◌, ℕ, ◌+◌, ◌<◌, ◌�
 use mathlib.Core.Logic.{dite}
 use native.Mathlib.Decide.{ℕ_discrete}
 use Rattle.atomic_table.specs.Table.{rest}
+use Rattle.atomic_table.specs.Seated.{TableId}
 use Rattle.walk_core.specs.Lists.{times, Has, without}
 use Rattle.walk_core.proofs.RowLists.{times-nil, times-cons_same, times-cons_other, times-append, times_one_same, times_one_other, times_without_same, times_without_other}
 use Rattle.walk_core.proofs.Stepped.{length-missing}
 use Rattle.row_table.specs.declared.view.PassView.{PassView}
 use Rattle.row_table.specs.declared.plan.Content.TheVariants.{Row, Book}
 use Rattle.row_table.specs.Rule.{Slot, Seat, view, IsOne, SameRows}
+use Rattle.row_table.specs.Known.{IsSized}
 use Rattle.row_table.specs.Stack.{outs, carried, AreRows}
 
 -- the contents in front of two stacks
@@ -79,16 +81,18 @@ rows_less rows r held are q = let h = are q in let past = h.1 in dite (ℕ_discr
     (λ e. let n = times_without_same r q held e in (omega arith, λ p. n))
     (λ ne. let n = times_without_other r q held ne in (omega arith, λ p. let z = past p in omega arith))
 
--- what a pass keeps of its seat and of the slots that it carries
-pub record Kept {R B E : Type 0} (n rows : ℕ) (m : Seat R B E) (items : List ℕ) : Type 0 where
+-- what a pass keeps of its seat at the table of this number and of the slots that it carries
+pub record Kept {R B E : Type 0} (n rows : ℕ) (id : TableId) (m : Seat R B E) (items : List ℕ) : Type 0 where
   pub one : IsOne n m
+  pub sized : IsSized n rows id (view m)
   pub stacked : m.1 ≡ outs items
   pub carries : SameRows items (carried rows (view m).core.held (view m).core.has_book)
   pub held : AreRows rows (view m).core.held
 
-pub kept_by : {R B E : Type 0} (n rows : ℕ) (m : Seat R B E) (items : List ℕ) (w : PassView R B E) → m ≡ (w ∷ [], outs items) → w.number ≡ n
-    → SameRows items (carried rows w.core.held w.core.has_book) → AreRows rows w.core.held → Kept n rows m items
-kept_by {R} {B} {E} n rows m items w e number same are = subst (λ (y : Seat R B E). Kept n rows y items) (sym e) (record { one = (refl, number); stacked = refl; carries = same; held = are })
+pub kept_by : {R B E : Type 0} (n rows : ℕ) (id to : TableId) (m : Seat R B E) (items : List ℕ) (w : PassView R B E) → to ≡ id → m ≡ (w ∷ [], outs items) → w.number ≡ n
+    → IsSized n rows id w → SameRows items (carried rows w.core.held w.core.has_book) → AreRows rows w.core.held → Kept n rows to m items
+kept_by {R} {B} {E} n rows id to m items w table e number sized same are = subst (λ (i : TableId). Kept n rows i m items) (sym table)
+    (subst (λ (y : Seat R B E). Kept n rows id y items) (sym e) (record { one = (refl, number); sized = sized; stacked = refl; carries = same; held = are }))
 
 -- a row that is held is carried
 pub carried_row : (rows r : ℕ) (held items : List ℕ) (has : Bool) → SameRows items (carried rows held has) → Has held r → Has items r

@@ -1,5 +1,5 @@
 -- Turn and give keep the rule.
-use Rattle.std.proofs.Common.{◌≡◌, ◌≢◌, ℕ, ◌+◌, ◌<◌, ◌≤◌, ◌==◌, eqb, cond, Bool, true, false, List, [], ◌∷◌, ◌++◌, map, length, get_or, set, sym, refl, ap, ◌∙◌, subst, ⊎_elim, arith, length-set, append-nil, append_assoc, eq-eqb, ne_eqb, Some}
+use Rattle.std.proofs.Common.{◌≡◌, ◌≢◌, ℕ, ◌+◌, ◌<◌, ◌≤◌, ◌==◌, eqb, cond, Bool, true, false, List, [], ◌∷◌, ◌++◌, map, length, get_or, set, sym, refl, ap, ◌∙◌, subst, ⊎_elim, arith, length-set, append-nil, append_assoc, eq-eqb, ne_eqb, Some, None}
 use Rattle.std.specs.List.{Contains}
 use Rattle.std.proofs.lemmas.List.{map-append, get_or_past}
 use Rattle.std.proofs.lemmas.List.Elements.{Contains-append_cases}
@@ -33,23 +33,25 @@ use Rattle.row_table.specs.declared.view.HandRow.{HandRow}
 use Rattle.row_table.specs.declared.plan.Content.TheVariants.{Book}
 use Rattle.row_table.specs.Plan.{Meaning, IsLawful}
 use Rattle.row_table.specs.Rows.{row_words, place_at, lock_of, generation_of}
-use Rattle.row_table.specs.Rule.{Slot, Homes, Seat, Table, view, IsOne, row_part, hand_part, StartsWith, places_from, own_places, SameRows, core_of, IsHeldRow, IsHandRow, Knows, Holds}
+use Rattle.row_table.specs.Rule.{Slot, Homes, Seat, Table, levels_of, view, IsOne, row_part, hand_part, StartsWith, places_from, own_places, SameRows, core_of, IsHeldRow, IsHandRow, Knows, Holds}
 use Rattle.row_table.specs.Moves.{NotInHand}
+use Rattle.row_table.specs.Vacant.{KeepsVacant}
 use Rattle.row_table.specs.Books.{given, region, swept_rows, taken_rows, give_of, MayGive, turned, waited, hand_rows, gave, Learns, TurnSays, TurnTells, GiveSays, GiveTells}
 use Rattle.row_table.proofs.Told.{same_front}
 use Rattle.row_table.proofs.Shown.{ShowSame, book_shows}
 use Rattle.row_table.proofs.Frames.{moved, moved_here, knows_shown, contents_booked}
 use Rattle.row_table.proofs.Views.{head_or_later, pass_is, knows_it, is_linked, held_of_row, has_held}
 use Rattle.row_table.proofs.Regions.{untouched}
+use Rattle.row_table.proofs.Vacant.{vacant_given, vacant_kept}
 
 -- Lists
 
-contained_map : {X Y : Type 0} (f : X → Y) (xs : List X) (y : Y) → Contains (map f xs) y → (x : X) × Contains xs x × (f x ≡ y)
+pub contained_map : {X Y : Type 0} (f : X → Y) (xs : List X) (y : Y) → Contains (map f xs) y → (x : X) × Contains xs x × (f x ≡ y)
 contained_map f [] y c = let h = c.1 in absurd (omega arith)
 contained_map f (x ∷ xs) y c = ⊎_elim (λ (z : f x ≡ y). (x, Rattle.row_table.proofs.Views.in_head x xs, z))
     (λ (l : Contains (map f xs) y). let o = contained_map f xs y l in (o.0, Rattle.row_table.proofs.Views.in_tail x xs o.0 o.1, o.2)) (head_or_later (f x) (map f xs) y c)
 
-has_contained : (xs : List ℕ) (r : ℕ) → Contains xs r → Has xs r
+pub has_contained : (xs : List ℕ) (r : ℕ) → Contains xs r → Has xs r
 has_contained [] r c = let h = c.1 in absurd (omega arith)
 has_contained (x ∷ xs) r c = let n = times-cons r x xs in ⊎_elim (λ (z : x ≡ r). let one = times-cons_same r x xs z in omega arith)
     (λ (l : Contains xs r). let o = has_contained xs r l in omega arith) (head_or_later x xs r c)
@@ -58,7 +60,7 @@ pub same_parts : {X Y : Type 0} (f : X → Y) (g : Y → ℕ) (h : X → ℕ) �
 same_parts f g h same [] = refl
 same_parts f g h same (x ∷ xs) = λ i. same x i ∷ same_parts f g h same xs i
 
-whole : (xs : List ℕ) → map (λ (x : ℕ). x) xs ≡ xs
+pub whole : (xs : List ℕ) → map (λ (x : ℕ). x) xs ≡ xs
 whole [] = refl
 whole (x ∷ xs) = ap (λ (l : List ℕ). x ∷ l) (whole xs)
 
@@ -131,11 +133,14 @@ module _ {R B E : Type 0} (M : Meaning R B E) where
             shows
             (record {
               there = now.there;
+              layout = now.layout;
               epoch = now.epoch;
               held = now.held;
               rows = λ y i. let o = now.rows y i in record { there = o.there; shown = o.shown; place = o.place; agrees = o.agrees };
               granted = now.granted;
               hand = now.hand;
+              vacant = now.vacant;
+              placed = now.placed;
               found = λ _. refl;
               origin = now.origin;
               seen = ([], sym (append-nil (M.journal b)));
@@ -158,11 +163,14 @@ module _ {R B E : Type 0} (M : Meaning R B E) where
             shows
             (record {
               there = now.there;
+              layout = now.layout;
               epoch = now.epoch;
               held = now.held;
               rows = λ y i. let o = now.rows y i in record { there = o.there; shown = o.shown; place = o.place; agrees = o.agrees };
               granted = now.granted;
               hand = now.hand;
+              vacant = now.vacant;
+              placed = now.placed;
               found = now.found;
               origin = now.origin;
               seen = now.seen;
@@ -231,6 +239,7 @@ module _ {R B E : Type 0} (M : Meaning R B E) where
         let fresh : List HandRow = hand_rows M (generation_of s.words) h.book new taken in
         record {
           there = now.there;
+          layout = now.layout;
           epoch = now.epoch;
           held = same_parts given row_part row_part (λ x. refl) v.rows ∙ now.held;
           rows = λ y i. let o = contained_map given v.rows y i in let is = now.rows o.0 o.1 in
@@ -240,14 +249,19 @@ module _ {R B E : Type 0} (M : Meaning R B E) where
                 place = is.place;
                 agrees = λ _. record { found = λ e. absurd (cc); given = λ _ a e words x agrees. let same : new ≡ a = cc in subst (λ (b : B). M.agrees b o.0.place words x) (sym same) agrees };
               });
-          granted = map-append hand_part v.hand fresh ∙ ((λ i. now.granted i ++ (same_parts (λ r. record { row = r; generation = generation_of s.words r; low = M.next_generation h.book; high = M.next_generation new }) hand_part (λ (x : ℕ). x) (λ x. refl) taken
+          granted = map-append hand_part v.hand fresh ∙ ((λ i. now.granted i ++ (same_parts (λ r. record { row = r; generation = generation_of s.words r; low = M.next_generation h.book; high = M.next_generation new; place = None }) hand_part (λ (x : ℕ). x) (λ x. refl) taken
               ∙ sym (same_parts newly_granted (λ (g : GrantedRow). g.row) (λ (x : ℕ). x) (λ x. refl) taken)) i)
               ∙ sym (map-append (λ (g : GrantedRow). g.row) v.core.granted (map newly_granted taken)));
           hand = λ x i. ⊎_elim
               (λ (j : Contains v.hand x). let o = now.hand x j in let up = rises in record { there = o.there; shown = o.shown; below = o.below; fresh = (let f = o.fresh in omega arith) })
-              (λ (j : Contains fresh x). let o = contained_map (λ r. record { row = r; generation = generation_of s.words r; low = M.next_generation h.book; high = M.next_generation new }) taken x j in
+              (λ (j : Contains fresh x). let o = contained_map (λ r. record { row = r; generation = generation_of s.words r; low = M.next_generation h.book; high = M.next_generation new; place = None }) taken x j in
               let less = taken_there o.0 (has_contained taken o.0 o.1) in
-              subst (λ (y : HandRow). IsHandRow M k us new y) o.2 (record { there = less; shown = (shows.rows o.0 less).generation; below = h.generations o.0 less; fresh = omega arith }))
+              subst (λ (y : HandRow). IsHandRow M k us new y) o.2 (record { there = less; shown = (shows.rows o.0 less).generation; below = (let low = h.generations o.0 less in let up = rises in omega arith); fresh = omega arith }))
+              (Contains-append_cases v.hand fresh x i);
+          vacant = λ y i _. let o = contained_map given v.rows y i in subst (KeepsVacant M (levels_of k) new (Some new)) o.2 (vacant_given M (levels_of k) new o.0);
+          placed = λ x i. ⊎_elim (now.placed x)
+              (λ (j : Contains fresh x). let o = contained_map (λ r. record { row = r; generation = generation_of s.words r; low = M.next_generation h.book; high = M.next_generation new; place = None }) taken x j in
+              subst (λ (y : HandRow). (p : Place) → y.place ≡ Some p → place_at us y.row ≡ p) o.2 (λ p e. absurd (cc)))
               (Contains-append_cases v.hand fresh x i);
           found = λ e. absurd (cc);
           origin = now.origin;
@@ -271,6 +285,7 @@ module _ {R B E : Type 0} (M : Meaning R B E) where
         subst (λ (q : Place). M.agrees new q words y) is.place (stays x.row linked out words y (subst (λ (q : Place). M.agrees h.book q words y) (sym is.place) a))) in
         record {
           there = now.there;
+          layout = now.layout;
           epoch = now.epoch;
           held = now.held;
           rows = λ x i. let o = now.rows x i in record {
@@ -278,12 +293,14 @@ module _ {R B E : Type 0} (M : Meaning R B E) where
             shown = o.shown;
             place = o.place;
             agrees = λ hand. let a = o.agrees hand in record {
-              found = λ e. row_stays x i hand x.words_found x.found (a.found e);
+              found = λ e y is. row_stays x i hand x.words_found y (a.found e y is);
               given = λ e b last words y agrees. row_stays x i hand words y (a.given e b last words y agrees);
             };
           };
           granted = now.granted;
           hand = λ x i. let o = now.hand x i in let up = rises in record { there = o.there; shown = o.shown; below = o.below; fresh = (let f = o.fresh in omega arith) };
+          vacant = λ x i hand. vacant_kept M k first s h v mine lawful new may.follows u its apart x i hand (now.vacant x i hand);
+          placed = now.placed;
           found = λ e. let one = h.good.locks.book.shown u.number (ap (λ (y : PassCore). y.has_book) (pass_is M k first s h u its) ∙ e) in
               let two = h.good.locks.book.shown v.number (ap (λ (y : PassCore). y.has_book) (pass_is M k first s h v mine) ∙ has) in absurd (apart (omega arith));
           origin = now.origin;
@@ -337,8 +354,14 @@ module _ {R B E : Type 0} (M : Meaning R B E) where
             let old_is : a ≡ h.book = cc in
             let front_is = same_front _ _ _ _ fronts in let new_is : new ≡ b = cc in
             subst (λ (x : B). GiveSays M (v ∷ [], (k.rows, Some (Book new)) ∷ cs) (w ∷ [], cs) x b) (sym old_is)
-            (subst (GiveSays M (v ∷ [], (k.rows, Some (Book new)) ∷ cs) (w ∷ [], cs) h.book) new_is
-            (record { generation = generation_of s.words; low = λ r i. h.generations r (taken_there k first s h v mine lawful has new may_give r i) }, refl)),
+            (subst (GiveSays M (v ∷ [], (k.rows, Some (Book new)) ∷ cs) (w ∷ [], cs) h.book) new_is (
+              record {
+                generation = generation_of s.words;
+                low = λ r i. h.generations r (taken_there k first s h v mine lawful has new may_give r i);
+                there = λ r i. subst (λ (y : Layout). r < y.rows) (sym know.layout) (taken_there k first s h v mine lawful has new may_give r i);
+              },
+              refl,
+            )),
       ))
 
   -- the same where the place and the number are known by equations

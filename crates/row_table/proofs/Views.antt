@@ -19,7 +19,8 @@ use Rattle.row_table.specs.declared.view.PassView.{PassView}
 use Rattle.row_table.specs.declared.view.HeldRow.{HeldRow}
 use Rattle.row_table.specs.Plan.{Meaning}
 use Rattle.row_table.specs.Rule.{Table, core_part, row_part, core_of, Knows, Holds}
-use Rattle.row_table.specs.Moves.{NotInHand, LinksRow, MayGrab}
+use Rattle.row_table.specs.Known.{LinksRow}
+use Rattle.row_table.specs.Moves.{NotInHand, MayGrab}
 use Rattle.row_table.proofs.Shown.{word_at}
 
 -- Elements of lists

@@ -2,13 +2,12 @@
 --     IsHeldAt, IsBelow, region      the positions of a pass's rows, those of the linked rows below them that it does not hold, and its region
 --     book_core      a core of which nothing but the book's lists is known
 --     swept_rows, put_list, taken_rows, give_of      the three lists of a give, by the books before and after, and the event
---     IsBlocked      each row in limbo has a pass whose sample kept it there
 --     MayGive      when a pass may give the second book, where its turn found the first
 --     turned, waited, gave      the pass after a turn that got the book, after one that did not, and after a give
 --     Learns      what a turn that got the book tells
 --     TurnSays, TurnTells, Grants, GiveSays, GiveTells      what a step tells its seat
 --     Turns, Gives, IsGivable      what a turn answers, what a give does, and when it may
-use Rattle.std.specs.Prelude.{◌≡◌, ◌≢◌, ℕ, ◌+◌, ◌%◌, ◌<◌, ◌≤◌, ◌⊎◌, not, true, false, List, [], ◌∷◌, ◌++◌, map, slice_index, None, Some}
+use Rattle.std.specs.Prelude.{◌≡◌, ◌≢◌, ℕ, ◌+◌, ◌<◌, ◌≤◌, not, true, false, List, [], ◌∷◌, ◌++◌, map, slice_index, None, Some}
 use Rattle.std.specs.List.{Contains, filter}
 use Rattle.atomic_table.specs.Table.{Step, rest}
 use Rattle.table_place.specs.declared.Place.{Place}
@@ -16,13 +15,11 @@ use Rattle.table_place.specs.Place.{entry_place, has_page}
 use Rattle.walk_core.specs.declared.event.Event.{Event}
 use Rattle.walk_core.specs.declared.event.Event.TheVariants.{Give}
 use Rattle.walk_core.specs.declared.lists.PutRow.{PutRow}
-use Rattle.walk_core.specs.declared.pass.SampleBounds.{SampleBounds}
 use Rattle.walk_core.specs.Words.{is_link, link_row, held_by}
 use Rattle.walk_core.specs.Lists.{times, Has, among, minus}
 use Rattle.walk_core.specs.Core.{Core, no_samples, times_in_hand}
 use Rattle.walk_core.specs.Events.{newly_granted, unlinked_after_give, free_after, limbo_after}
 use Rattle.walk_core.specs.Guards.{Guard, put_rows}
-use Rattle.walk_core.specs.Good.{sample_of}
 use Rattle.row_layout.specs.declared.places.Layout.{Layout}
 use Rattle.row_table.specs.declared.plan.Content.TheVariants.{Book}
 use Rattle.row_table.specs.declared.answers.Turned.{Turned}
@@ -31,11 +28,12 @@ use Rattle.row_table.specs.declared.view.PassView.{PassView}
 use Rattle.row_table.specs.declared.view.HeldRow.{HeldRow}
 use Rattle.row_table.specs.declared.view.HandRow.{HandRow}
 use Rattle.row_table.specs.Plan.{Meaning, Region}
-use Rattle.row_table.specs.Rule.{Slot, Seat, levels, StartsWith, SameRows, view, own_places, core_of, Agrees}
+use Rattle.row_table.specs.Rule.{Slot, Seat, levels_of, StartsWith, SameRows, view, own_places, core_of, Agrees}
+use Rattle.row_table.specs.Vacant.{vacant_entries}
 use Rattle.row_table.specs.Moves.{NotInHand}
 
 abbrev pub given : {R : Type 0} → HeldRow R → HeldRow R
-given h = record h { is_given = true }
+given h = record h { is_given = true; vacant = vacant_entries h.words }
 
 module _ {R B E : Type 0} where
   -- The region of a pass
@@ -50,7 +48,7 @@ module _ {R B E : Type 0} where
     pub inside : index < 512
     pub link : is_link (slice_index linker.words index) ≡ true
     pub child_held : ¬ Has v.core.held (link_row (slice_index linker.words index))
-    pub place : p ≡ entry_place levels linker.place index
+    pub place : p ≡ entry_place (levels_of v.layout) linker.place index
 
   abbrev pub region : PassView R B E → Region
   region v = record {
@@ -80,22 +78,12 @@ module _ {R B E : Type 0} where
     abbrev pub give_of : ℕ → B → B → Event
     give_of p old new = Give p (put_list old new) (swept_rows old new) (taken_rows old new)
 
-    -- an odd number that the giver sampled of some pass since its turn is kept with the row
-    pub record IsBlocked (k : Layout) (v : PassView R B E) (put : PutRow) : Type 0 where
-      pub pass : ℕ
-      pub there : pass < k.passes
-      pub odd : slice_index put.samples pass % 2 ≡ 1
-      pub bounds : SampleBounds
-      pub sampled : sample_of v.core.samples pass ≡ Some bounds
-      pub same : (slice_index put.samples pass ≡ bounds.first) ⊎ (slice_index put.samples pass ≡ bounds.last)
-
     pub record MayGive (k : Layout) (v : PassView R B E) (old new : B) : Type 0 where
       pub follows : M.may_follow (region v) old new
       pub names : (entry : E) → M.journal new ≡ M.journal old ++ entry ∷ [] → M.thread entry ≡ v.number
       pub guard : Guard (book_core k old) v.core (give_of v.number old new)
       pub free : SameRows (free_after (give_of v.number old new) (M.free old)) (M.free new)
       pub limbo : M.limbo new ≡ limbo_after (give_of v.number old new) (M.limbo old)
-      pub blocked : M.journal new ≢ M.journal old → M.shows_limbo new ≡ true → (put : PutRow) → Contains (M.limbo new) put → IsBlocked k v put
 
     -- What the pass knows afterwards
 
@@ -104,7 +92,7 @@ module _ {R B E : Type 0} where
 
     -- the rows that a give grants, by the generation of each
     abbrev pub hand_rows : (ℕ → ℕ) → B → B → List ℕ → List HandRow
-    hand_rows generation old new rows = map (λ r. record { row = r; generation = generation r; low = M.next_generation old; high = M.next_generation new }) rows
+    hand_rows generation old new rows = map (λ r. record { row = r; generation = generation r; low = M.next_generation old; high = M.next_generation new; place = None }) rows
 
     abbrev pub gave : PassView R B E → B → B → (ℕ → ℕ) → PassView R B E
     gave v old new generation = record v {
@@ -137,14 +125,15 @@ module _ {R B E : Type 0} where
     abbrev pub TurnTells : Step (Slot R B) → Seat R B E → ℕ → Seat R B E → Type 0
     TurnTells st m n m' = (rows : ℕ) → st.slots ≡ rows + 1 → TurnSays m n m' rows
 
-    -- the generation of each row that a give grants is below the next one that the turn found
-    pub record Grants (old new : B) : Type 0 where
+    -- the generation of each row that a give grants is below the next one that the turn found, and the row is one of so many
+    pub record Grants (rows : ℕ) (old new : B) : Type 0 where
       pub generation : ℕ → ℕ
       pub low : (r : ℕ) → Has (taken_rows old new) r → generation r < M.next_generation old
+      pub there : (r : ℕ) → Has (taken_rows old new) r → r < rows
 
     -- of a give of the second book, where the turn found the first
     abbrev pub GiveSays : Seat R B E → Seat R B E → B → B → Type 0
-    GiveSays m m' old new = (grants : Grants old new) × (m' ≡ (gave (view m) old new grants.generation ∷ [], rest m.1))
+    GiveSays m m' old new = (grants : Grants (view m).layout.rows old new) × (m' ≡ (gave (view m) old new grants.generation ∷ [], rest m.1))
 
     abbrev pub GiveTells : Step (Slot R B) → Seat R B E → ℕ → Seat R B E → Type 0
     GiveTells st m n m' = (rows : ℕ) (old new : B) → (view m).found ≡ Some old → m.1 ≡ (rows, Some (Book new)) ∷ rest m.1 → GiveSays m m' old new
@@ -158,7 +147,7 @@ module _ {R B E : Type 0} where
     pub record Gives (v : PassView R B E) (new : B) (w : PassView R B E) : Type 0 where
       pub old : B
       pub found : v.found ≡ Some old
-      pub grants : Grants old new
+      pub grants : Grants v.layout.rows old new
       pub after : w ≡ gave v old new grants.generation
 
     -- the book that the pass has may be given in this form

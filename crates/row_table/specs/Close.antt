@@ -1,17 +1,20 @@
 -- What a table is closed into.
---     IsIdle      a pass that is outside, and has nothing
+--     HasNothing, IsIdle      a pass that is outside, and has nothing
 --     HasAll      each pass is there
 --     IsReached      a row that links from row 0 reach
---     IsGoodEnd      the words and the book's lists are those of a good core
+--     times_listed      how many times a row stands in the book's lists
+--     IsGoodEnd      the words and the book's lists are those of a good core whose passes have nothing, and each row is in one list or reached
 --     AtEnd      what holds of the words and the slots of a closed table, whose passes knew this
 --     KnownAtEnd, IsClosed      the same of what the table is closed into
-use Rattle.std.specs.Prelude.{◌≡◌, ℕ, suc, zero, ◌%◌, ◌<◌, true, false, List, [], length, slice_index, None, Some}
+use Rattle.std.specs.Prelude.{◌≡◌, ℕ, suc, zero, ◌+◌, ◌%◌, ◌<◌, ◌≤◌, true, false, List, [], length, slice_index, None, Some}
 use Rattle.std.specs.List.{Contains}
 use mathlib.Core.Option.{some}
 use lib.ListN.{get_elem?}
 use Rattle.walk_core.specs.Words.{entry_at, epoch_at, is_link, link_row}
-use Rattle.walk_core.specs.Lists.{Has}
-use Rattle.walk_core.specs.Core.{Core}
+use Rattle.walk_core.specs.declared.pass.PassCore.{PassCore}
+use Rattle.walk_core.specs.Lists.{times, Has}
+use Rattle.walk_core.specs.Core.{Core, pass_at}
+use Rattle.walk_core.specs.Guards.{put_rows}
 use Rattle.walk_core.specs.Good.{Good}
 use Rattle.row_layout.specs.declared.places.Layout.{Layout}
 use Rattle.row_layout.specs.Places.{word_count}
@@ -21,12 +24,15 @@ use Rattle.row_table.specs.Plan.{Meaning}
 use Rattle.row_table.specs.Rows.{row_words, place_at}
 use Rattle.row_table.specs.Rule.{Slot, SameRows, StartsWith, own_places}
 
-pub record IsIdle {R B E : Type 0} (v : PassView R B E) : Type 0 where
-  pub outside : v.core.stand ≡ None
-  pub held : v.core.held ≡ []
-  pub granted : v.core.granted ≡ []
-  pub unlinked : v.core.unlinked ≡ []
-  pub has_not : v.core.has_book ≡ false
+pub record HasNothing (v : PassCore) : Type 0 where
+  pub outside : v.stand ≡ None
+  pub held : v.held ≡ []
+  pub granted : v.granted ≡ []
+  pub unlinked : v.unlinked ≡ []
+  pub has_not : v.has_book ≡ false
+
+abbrev pub IsIdle : {R B E : Type 0} → PassView R B E → Type 0
+IsIdle v = HasNothing v.core
 
 abbrev pub HasAll : ℕ → List ℕ → Type 0
 HasAll count numbers = (t : ℕ) → t < count → Has numbers t
@@ -40,6 +46,10 @@ abbrev pub IsReached : List ℕ → ℕ → Type 0
 IsReached words r = (n : ℕ) × IsReachedIn words n r
 
 module _ {R B E : Type 0} (M : Meaning R B E) where
+  abbrev pub times_listed : ℕ → B → ℕ
+  times_listed r book = times r (M.free book) + times r (put_rows (M.limbo book))
+
+  -- a row that is there stands once among the free rows and those in limbo, or else links from row 0 reach it
   pub record IsGoodEnd (k : Layout) (words : List ℕ) (book : B) : Type 0 where
     pub core : Core
     pub good : Good core
@@ -48,10 +58,16 @@ module _ {R B E : Type 0} (M : Meaning R B E) where
     pub words_same : core.words ≡ words
     pub free : SameRows core.free (M.free book)
     pub limbo : core.limbo ≡ M.limbo book
+    pub hands : (p : ℕ) → p < k.passes → HasNothing (pass_at core p)
+    pub once : (r : ℕ) → times_listed r book ≤ 1
+    pub there : (r : ℕ) → k.rows ≤ r → times_listed r book ≡ 0
+    pub reached : (r : ℕ) → r < k.rows → times_listed r book ≡ 0 → IsReached words r
+    pub unlisted : (r : ℕ) → IsReached words r → (r < k.rows) × (times_listed r book ≡ 0)
 
-  -- the journal and the epoch word as a pass knew them
+  -- the journal, the epoch word and the fixed part of the book as a pass knew them
   pub record KnownAtEnd (epoch : ℕ) (book : B) (v : PassView R B E) : Type 0 where
     pub same_epoch : epoch ≡ v.epoch
+    pub fixed : (first : B) → v.origin ≡ Some first → M.same_fixed first book
     pub seen : StartsWith (M.journal book) v.seen
     pub mine : v.mine ≡ own_places M v.number (M.journal book)
 
@@ -72,4 +88,4 @@ module _ {R B E : Type 0} (M : Meaning R B E) where
     pub epochs_are : (t : ℕ) → t < k.passes → slice_index epochs t ≡ slice_index words (epoch_at k.rows t)
     pub even : (t : ℕ) → t < k.passes → slice_index epochs t % 2 ≡ 0
     pub agree : (r : ℕ) (x : R) → IsReached words r → get_elem? rows r ≡ some x → M.agrees book (place_at words r) (row_words words r) x
-    pub knows : (v : PassView R B E) → Contains views v → KnownAtEnd (slice_index epochs v.number) book v
+    pub knows : (v : PassView R B E) → Contains views v → (v.number < k.passes) × KnownAtEnd (slice_index epochs v.number) book v

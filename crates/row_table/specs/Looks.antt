@@ -3,33 +3,34 @@
 --     Reads      what is known of the entry that was read
 --     LookSays, LookTells      what the step tells its seat
 --     MayLook, Looks      when a pass may look, and what it answers
-use Rattle.std.specs.Prelude.{◌≡◌, ℕ, ◌<◌, ◌⊎◌, [], ◌∷◌, ◌++◌, slice_index, Some}
+use Rattle.std.specs.Prelude.{◌≡◌, ℕ, ◌<◌, ◌⊎◌, true, [], ◌∷◌, ◌++◌, slice_index, Some}
 use Rattle.std.specs.List.{Contains}
 use Rattle.atomic_table.specs.Table.{Step}
 use Rattle.table_place.specs.declared.Place.{Place}
-use Rattle.walk_core.specs.declared.pass.Stand.{Stand}
-use Rattle.walk_core.specs.Words.{entry_at}
+use Rattle.walk_core.specs.Words.{entry_at, is_link, link_row}
 use Rattle.walk_core.specs.Lists.{Has}
 use Rattle.walk_core.specs.Events.{stand_after_look}
 use Rattle.walk_core.specs.Guards.{StandsOn}
 use Rattle.row_table.specs.declared.view.PassView.{PassView}
 use Rattle.row_table.specs.declared.view.HeldRow.{HeldRow}
-use Rattle.row_table.specs.Rule.{Slot, Seat, levels, view}
+use Rattle.row_table.specs.Rule.{Slot, Seat, levels_of, view}
+use Rattle.row_table.specs.Known.{IsKnownPlace}
 use Rattle.row_table.specs.Moves.{finding}
 
 module _ {R B E : Type 0} where
   -- where the word is a link of the row on which the pass stands, it stands on the linked row
   abbrev pub looked_at : PassView R B E → ℕ → Place → ℕ → ℕ → PassView R B E
   looked_at v row place index n = record v {
-    core = record v.core { stand = stand_after_look levels row index n v.core.stand };
+    core = record v.core { stand = stand_after_look (levels_of v.layout) row index n v.core.stand };
     findings = v.findings ++ finding row place (Some index) n ∷ [];
   }
 
-  -- the row's position is that of the stand or of the held row, and the word of a held row is known
+  -- the row's position is known, the word of a held row is the known one, and a row that the word links is there
   pub record Reads (v : PassView R B E) (row index n : ℕ) : Type 0 where
     pub place : Place
-    pub stands : (s : Stand) → v.core.stand ≡ Some s → s.row ≡ row → place ≡ s.place
-    pub holds : (h : HeldRow R) → Contains v.rows h → h.row ≡ row → (place ≡ h.place) × (n ≡ slice_index h.words index)
+    pub known : IsKnownPlace v row place
+    pub holds : (h : HeldRow R) → Contains v.rows h → h.row ≡ row → n ≡ slice_index h.words index
+    pub below : is_link n ≡ true → link_row n < v.layout.rows
 
   abbrev pub LookSays : Seat R B E → ℕ → Seat R B E → ℕ → ℕ → Type 0
   LookSays m n m' row index = (reads : Reads (view m) row index n) × (m' ≡ (looked_at (view m) row reads.place index n ∷ [], m.1))

@@ -1,15 +1,15 @@
 -- What each kind of step makes of what a pass knows, and what it tells.
 --     finding, got, looked      a word that was found;  the pass after a grab that took the row, and after one that did not
 --     released      the pass after a release
---     Finds      what a grab that took the row found
+--     Finds, Misses      what a grab that took the row found, and one that did not
 --     GrabSays, GrabTells, ReleaseTells      what a step tells its seat
---     NotInHand, LinksRow, MayGrab      a row is not in the pass's hand;  a held row links another;  when a pass may grab
+--     NotInHand, MayGrab      a row is not in the pass's hand;  when a pass may grab
 --     Fits, MayRelease      a content that may stand in a row;  when a pass may release
-use Rattle.std.specs.Prelude.{◌≡◌, ◌≢◌, ℕ, ◌<◌, ◌≤◌, not, true, false, ◌⊎◌, List, [], ◌∷◌, ◌++◌, slice_index, nat_eq, Option, None, Some}
+use Rattle.std.specs.Prelude.{◌≡◌, ◌≢◌, ℕ, ◌≤◌, not, true, false, ◌⊎◌, List, [], ◌∷◌, ◌++◌, nat_eq, Option, None, Some}
 use Rattle.std.specs.List.{Contains, filter}
 use Rattle.atomic_table.specs.Table.{Step, rest}
 use Rattle.table_place.specs.declared.Place.{Place}
-use Rattle.walk_core.specs.Words.{lock_at, is_link, link_row, stale}
+use Rattle.walk_core.specs.Words.{lock_at, held_by, stale}
 use Rattle.walk_core.specs.Lists.{Has, without}
 use Rattle.walk_core.specs.Core.{times_in_hand}
 use Rattle.walk_core.specs.Guards.{StandsOn}
@@ -19,12 +19,13 @@ use Rattle.row_table.specs.declared.view.HeldRow.{HeldRow}
 use Rattle.row_table.specs.declared.view.Finding.{Finding}
 use Rattle.row_table.specs.Plan.{Meaning}
 use Rattle.row_table.specs.Rule.{Slot, Seat, view}
+use Rattle.row_table.specs.Known.{LinksRow, IsKnownPlace, IsHolder, IsLoose, LinksBelow}
 
 abbrev pub finding : ℕ → Place → Option ℕ → ℕ → Finding
 finding row place index word = record { row = row; place = place; index = index; word = word }
 
 abbrev pub grabbed : {R : Type 0} → ℕ → Place → List ℕ → R → HeldRow R
-grabbed row place words found = record { row = row; place = place; words = words; words_found = words; found = found; is_given = false }
+grabbed row place words found = record { row = row; place = place; words = words; words_found = words; found = Some found; is_given = false; vacant = [] }
 
 module _ {R B E : Type 0} where
   abbrev pub looked : PassView R B E → ℕ → Place → Option ℕ → ℕ → PassView R B E
@@ -46,30 +47,31 @@ module _ {R B E : Type 0} where
   -- what a grab that took the row found: its position, its entry words and its content. The row is linked, and the pass did not hold it
   pub record Finds (row : ℕ) (v : PassView R B E) : Type 0 where
     pub place : Place
+    pub known : IsKnownPlace v row place
     pub words : List ℕ
+    pub below : LinksBelow v.layout.rows words
     pub content : R
     pub linked : NotInHand v row
     pub once : ¬ Has v.core.held row
 
+  -- what a grab that found n and did not take the row tells of it
+  pub record Misses (row : ℕ) (v : PassView R B E) (n : ℕ) : Type 0 where
+    pub place : Place
+    pub known : IsKnownPlace v row place
+    pub small : n ≤ stale
+    pub loose : n ≡ stale → IsLoose v row
+    pub taken : n ≢ stale → (s : ℕ) × (n ≡ held_by s) × IsHolder v row s
+
   -- of a grab of the row that found n
   abbrev pub GrabSays : Seat R B E → ℕ → Seat R B E → ℕ → Type 0
   GrabSays m n m' row = (n ≡ 0 → (f : Finds row (view m)) × (m' ≡ (got (view m) row f.place f.words f.content ∷ [], (row, Some (Row f.content)) ∷ m.1)))
-      × (n ≢ 0 → (place : Place) × (n ≤ stale) × (m' ≡ (looked (view m) row place None n ∷ [], m.1)))
+      × (n ≢ 0 → (missed : Misses row (view m) n) × (m' ≡ (looked (view m) row missed.place None n ∷ [], m.1)))
 
   abbrev pub GrabTells : Step (Slot R B) → Seat R B E → ℕ → Seat R B E → Type 0
   GrabTells st m n m' = (row : ℕ) → st.word ≡ lock_at row → GrabSays m n m' row
 
   abbrev pub ReleaseTells : Step (Slot R B) → Seat R B E → ℕ → Seat R B E → Type 0
   ReleaseTells st m n m' = (row : ℕ) → st.word ≡ lock_at row → m' ≡ (released (view m) row ∷ [], rest m.1)
-
-  -- a row that the pass holds has an entry that links the row
-  pub record LinksRow (v : PassView R B E) (row : ℕ) : Type 0 where
-    pub linker : HeldRow R
-    pub held : Contains v.rows linker
-    pub index : ℕ
-    pub inside : index < 512
-    pub link : is_link (slice_index linker.words index) ≡ true
-    pub to_row : link_row (slice_index linker.words index) ≡ row
 
   abbrev pub MayGrab : PassView R B E → ℕ → Type 0
   MayGrab v row = StandsOn v.core row ⊎ LinksRow v row
@@ -79,5 +81,5 @@ module _ {R B E : Type 0} where
     pub known : HeldRow R
     pub held : Contains v.rows known
     pub same_row : known.row ≡ row
-    pub content_fits : ((known.is_given ≡ false) × (content ≡ known.found) × (known.words ≡ known.words_found))
+    pub content_fits : ((known.is_given ≡ false) × (known.found ≡ Some content) × (known.words ≡ known.words_found))
         ⊎ ((known.is_given ≡ true) × ((book : B) × (v.last ≡ Some book) × M.agrees book known.place known.words content))

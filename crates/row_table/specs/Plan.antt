@@ -55,4 +55,5 @@ pub record IsLawful {R B E : Type 0} (M : Meaning R B E) : Type 1 where
   pub rises : (region : Region) (a b : B) → M.may_follow region a b → M.next_generation a ≤ M.next_generation b
   pub keeps_fixed : (region : Region) (a b : B) → M.may_follow region a b → M.same_fixed a b
   pub fixed_same : (a : B) → M.same_fixed a a
+  pub fixed_back : (a b : B) → M.same_fixed a b → M.same_fixed b a
   pub fixed_on : (a b c : B) → M.same_fixed a b → M.same_fixed b c → M.same_fixed a c

@@ -1,5 +1,6 @@
 -- The rule of the shared table: between any two steps its words, the values at home and the views stand for a good core.
 --     Slot, Homes, Seat, Table      a slot, what stands at home, what one seat knows and has, and the table
+--     levels_of      how many levels the page tables have
 --     StartsWith, own_places      a journal begins with what was seen;  the places of one thread's entries in a journal
 --     unmoved, boot_views      a pass that has done nothing, and the passes at the start
 --     view, IsOne      what the one pass of a seat knows
@@ -16,6 +17,7 @@ use mathlib.Core.Option.{some}
 use mathlib.Core.Option as maybe
 use lib.ListN.{get_elem?}
 use Rattle.atomic_table.specs.Table.{State, Me}
+use Rattle.table_place.specs.declared.Place.{Place}
 use Rattle.walk_core.specs.declared.pass.PassCore.{PassCore}
 use Rattle.walk_core.specs.Words.{epoch_at, book_at, stale}
 use Rattle.walk_core.specs.Lists.{times}
@@ -28,6 +30,7 @@ use Rattle.row_table.specs.declared.view.PassView.{PassView}
 use Rattle.row_table.specs.declared.view.HeldRow.{HeldRow}
 use Rattle.row_table.specs.declared.view.HandRow.{HandRow}
 use Rattle.row_table.specs.Plan.{Meaning}
+use Rattle.row_table.specs.Vacant.{KeepsVacant}
 use Rattle.row_table.specs.Rows.{row_words, place_at, lock_of, generation_of}
 
 abbrev pub Slot : Type 0 → Type 0 → Type 0
@@ -42,9 +45,12 @@ Seat R B E = Me (Slot R B) (List (PassView R B E))
 abbrev pub Table : Type 0 → Type 0 → Type 0 → Type 0
 Table R B E = State (Slot R B) (List (PassView R B E))
 
--- the page tables of a space have four levels
-abbrev pub levels : ℕ
-levels = 4
+-- how many levels the page tables of a space have
+unfoldable pub levels_of : Layout → ℕ
+levels_of k = 4
+
+abbrev pub no_layout : Layout
+no_layout = record { rows = 0; passes = 0 }
 
 abbrev pub StartsWith : {E : Type 0} → List E → List E → Type 0
 StartsWith {E} journal seen = (more : List E) × (journal ≡ seen ++ more)
@@ -65,22 +71,22 @@ hand_part x = x.row
 
 module _ {R B E : Type 0} where
   -- a pass that has done nothing, where the book at the start is known or not
-  abbrev pub unmoved : Option B → ℕ → PassView R B E
-  unmoved origin p = record { number = p; core = idle; epoch = 0; rows = []; hand = []; found = None; last = None; origin = origin; seen = []; mine = []; turn = None; findings = [] }
+  abbrev pub unmoved : Layout → Option B → ℕ → PassView R B E
+  unmoved k origin p = record { number = p; layout = k; core = idle; epoch = 0; rows = []; hand = []; found = None; last = None; origin = origin; seen = []; mine = []; turn = None; findings = [] }
 
   abbrev pub view : Seat R B E → PassView R B E
-  view m = slice_index_or m.0 0 (unmoved None 0)
+  view m = slice_index_or m.0 0 (unmoved no_layout None 0)
 
   abbrev pub IsOne : ℕ → Seat R B E → Type 0
   IsOne n m = (m.0 ≡ view m ∷ []) × ((view m).number ≡ n)
 
   -- the passes at the start, from this one on
-  abbrev pub boot_from : Option B → ℕ → ℕ → List (PassView R B E)
-  boot_from origin p zero = []
-  boot_from origin p (suc n) = unmoved origin p ∷ boot_from origin (p + 1) n
+  abbrev pub boot_from : Layout → Option B → ℕ → ℕ → List (PassView R B E)
+  boot_from k origin p zero = []
+  boot_from k origin p (suc n) = unmoved k origin p ∷ boot_from k origin (p + 1) n
 
   abbrev pub boot_views : Layout → B → List (PassView R B E)
-  boot_views k origin = boot_from (Some origin) 0 k.passes
+  boot_views k origin = boot_from k (Some origin) 0 k.passes
 
   abbrev pub core_part : PassView R B E → PassCore
   core_part v = v.core
@@ -95,7 +101,7 @@ module _ {R B E : Type 0} where
     own_places p journal = places_from (λ e. M.thread e == p) 0 journal
 
     abbrev pub core_of : Layout → List ℕ → List (PassView R B E) → List ℕ → B → Core
-    core_of k words passes free book = record { levels = levels; rows = k.rows; count = k.passes; words = words; passes = map core_part passes; free = free; limbo = M.limbo book }
+    core_of k words passes free book = record { levels = levels_of k; rows = k.rows; count = k.passes; words = words; passes = map core_part passes; free = free; limbo = M.limbo book }
 
     -- a row that nobody holds is at home and agrees with the book, a row that nobody may take is at home and blank, and so is the book while no pass has it
     pub record Contents (k : Layout) (words : List ℕ) (book : B) (homes : Homes R B) : Type 0 where
@@ -105,7 +111,7 @@ module _ {R B E : Type 0} where
 
     -- While the pass has given no book since the grab, what the grab found agrees with the book. Afterwards whatever agrees with the book that the pass gave last agrees with the book.
     pub record Agrees (book : B) (last : Option B) (h : HeldRow R) : Type 0 where
-      pub found : h.is_given ≡ false → M.agrees book h.place h.words_found h.found
+      pub found : h.is_given ≡ false → (x : R) → h.found ≡ Some x → M.agrees book h.place h.words_found x
       pub given : h.is_given ≡ true → (a : B) → last ≡ Some a → (words : List ℕ) (x : R) → M.agrees a h.place words x → M.agrees book h.place words x
 
     -- a row of the pass's hand is not linked, and agrees with nothing yet
@@ -119,16 +125,19 @@ module _ {R B E : Type 0} where
     pub record IsHandRow (k : Layout) (words : List ℕ) (book : B) (x : HandRow) : Type 0 where
       pub there : x.row < k.rows
       pub shown : generation_of words x.row ≡ x.generation
-      pub below : x.generation < x.low
+      pub below : x.generation < x.high
       pub fresh : x.high ≤ M.next_generation book
 
     pub record Knows (k : Layout) (first : B) (words : List ℕ) (book : B) (v : PassView R B E) : Type 0 where
       pub there : v.number < k.passes
+      pub layout : v.layout ≡ k
       pub epoch : slice_index words (epoch_at k.rows v.number) ≡ v.epoch
       pub held : map row_part v.rows ≡ v.core.held
       pub rows : (h : HeldRow R) → Contains v.rows h → IsHeldRow k words book v h
       pub granted : map hand_part v.hand ≡ granted_rows v.core
       pub hand : (x : HandRow) → Contains v.hand x → IsHandRow k words book x
+      pub vacant : (h : HeldRow R) → Contains v.rows h → times_in_hand h.row v.core ≡ 0 → KeepsVacant M (levels_of k) book v.last h
+      pub placed : (x : HandRow) → Contains v.hand x → (p : Place) → x.place ≡ Some p → place_at words x.row ≡ p
       pub found : v.core.has_book ≡ true → v.found ≡ Some book
       pub origin : v.origin ≡ Some first
       pub seen : StartsWith (M.journal book) v.seen

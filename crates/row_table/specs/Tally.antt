@@ -27,5 +27,6 @@ lawful = record {
   rises = λ _ _ _ f. f.0;
   keeps_fixed = λ _ _ _ _. tt;
   fixed_same = λ _. tt;
+  fixed_back = λ _ _ _. tt;
   fixed_on = λ _ _ _ _ _. tt;
 }

@@ -5,7 +5,8 @@ ghost use Rattle.std.specs.VecDeque.{deque_capacity};
 ghost use Rattle.walk_core.specs.Words.{word_count};
 ghost use Rattle.walk_core.specs.Core.{word};
 ghost use Rattle.row_layout.specs.Places.{IsLayout};
-ghost use Rattle.row_table.specs.Rule.{unmoved, boot_from, view};
+ghost use Rattle.row_table.specs.Rule.{unmoved, boot_from};
+ghost use Rattle.row_table.specs.Passes.{view_of, number_of, kit_of, layout_of, IsPassOf};
 ghost use Rattle.row_table.specs.Start.{MayStart, start_words, start_slots, first_pass, other_passes};
 
 use crate::pass::Pass;
@@ -76,13 +77,13 @@ impl<P: Plan> Iron<P> {
         kit: P::Kit,
     ) -> Pass<P>
         requires table { seat.old.table_id ≡ self.now.table.shared.table_id }
-        requires first { (more : _) × (seat.old.me ≡ (unmoved (Some self.now.table.shared.key.origin.value) number ∷ more, [])) }
+        requires first { (more : _) × (seat.old.me ≡ (unmoved self.now.layout (Some self.now.table.shared.key.origin.value) number ∷ more, [])) }
         requires number { number < self.now.layout.passes }
         requires stack { (stack.items ≡ []) × (self.now.layout.rows + 1 ≤ deque_capacity stack) }
-        ensures table { (seat.new.table_id ≡ self.now.table.shared.table_id) × (result.seat.table_id ≡ self.now.table.shared.table_id) }
+        ensures table { (seat.new.table_id ≡ self.now.table.shared.table_id) × IsPassOf self.now result }
         ensures seat { seat.new.me ≡ (other_passes seat.old.me.0, []) }
-        ensures view { view result.seat.me ≡ unmoved (Some self.now.table.shared.key.origin.value) number }
-        ensures number { (result.number ≡ number) × (result.kit ≡ Some kit) }
+        ensures view { view_of result ≡ unmoved self.now.layout (Some self.now.table.shared.key.origin.value) number }
+        ensures number { (number_of result ≡ number) × (kit_of result ≡ Some kit) }
     {
         Pass {
             seat: self.table.shared.split_seat::<Apart>(seat),
@@ -103,11 +104,11 @@ impl<P: Plan> Iron<P> {
         kits: Vec<P::Kit>,
     ) -> Result<Vec<Pass<P>>, AllocError>
         requires table { seat.table_id ≡ self.now.table.shared.table_id }
-        requires seat { seat.me ≡ (boot_from (Some self.now.table.shared.key.origin.value) 0 self.now.layout.passes, []) }
+        requires seat { seat.me ≡ (boot_from self.now.layout (Some self.now.table.shared.key.origin.value) 0 self.now.layout.passes, []) }
         requires kits { length kits.items ≡ self.now.layout.passes }
-        ensures numbers { IfOk result (λ passes. map (λ p. p.number) passes.items ≡ range_with_len 0 self.now.layout.passes) }
-        ensures kits { IfOk result (λ passes. map (λ p. p.kit) passes.items ≡ map (λ kit. Some kit) kits.items) }
-        ensures views { IfOk result (λ passes. All (λ p. (p.seat.table_id ≡ self.now.table.shared.table_id) × (view p.seat.me ≡ unmoved (Some self.now.table.shared.key.origin.value) p.number)) passes.items) }
+        ensures numbers { IfOk result (λ passes. map (λ p. number_of p) passes.items ≡ range_with_len 0 self.now.layout.passes) }
+        ensures kits { IfOk result (λ passes. map (λ p. kit_of p) passes.items ≡ map (λ kit. Some kit) kits.items) }
+        ensures views { IfOk result (λ passes. All (λ p. IsPassOf self.now p × (view_of p ≡ unmoved self.now.layout (Some self.now.table.shared.key.origin.value) (number_of p))) passes.items) }
     {
         let mut passes = Vec::with_capacity(alloc, kits.len())?;
         for kit in kits {
@@ -133,10 +134,10 @@ impl<P: Plan> Iron<P> {
         requires layout { IsLayout layout }
         requires starts { MayStart P.meaning layout rows.items book }
         requires kits { length kits.items ≡ layout.passes }
-        ensures layout { IfOk result (λ made. made.0.layout ≡ layout) }
-        ensures numbers { IfOk result (λ made. map (λ p. p.number) made.1.items ≡ range_with_len 0 layout.passes) }
-        ensures kits { IfOk result (λ made. map (λ p. p.kit) made.1.items ≡ map (λ kit. Some kit) kits.items) }
-        ensures views { IfOk result (λ made. All (λ p. (p.seat.table_id ≡ made.0.table.shared.table_id) × (view p.seat.me ≡ unmoved (Some book) p.number)) made.1.items) }
+        ensures layout { IfOk result (λ made. layout_of made.0 ≡ layout) }
+        ensures numbers { IfOk result (λ made. map (λ p. number_of p) made.1.items ≡ range_with_len 0 layout.passes) }
+        ensures kits { IfOk result (λ made. map (λ p. kit_of p) made.1.items ≡ map (λ kit. Some kit) kits.items) }
+        ensures views { IfOk result (λ made. All (λ p. IsPassOf made.0 p × (view_of p ≡ unmoved layout (Some book) (number_of p))) made.1.items) }
     {
         let about = About {
             layout,
@@ -159,7 +160,7 @@ impl<P: Plan> Iron<P> {
 
     /// The layout that `new` was given.
     pub fn layout(&self) -> &Layout
-        ensures { result.now ≡ self.now.layout }
+        ensures { result.now ≡ layout_of self.now }
     {
         &self.layout
     }

@@ -7,7 +7,7 @@ ghost use mathlib.Core.Option.{some};
 ghost use lib.ListN.{get_elem?};
 ghost use Rattle.walk_core.specs.Lists.{among};
 ghost use Rattle.walk_core.specs.Words.{epoch_at};
-ghost use Rattle.row_table.specs.Rule.{view};
+ghost use Rattle.row_table.specs.Passes.{view_of, number_of, layout_of, IsPassOf};
 ghost use Rattle.row_table.specs.Close.{IsIdle, HasAll, AtEnd, IsClosed};
 ghost use Rattle.row_layout.specs.Places.{IsLayout, word_count};
 
@@ -39,13 +39,13 @@ impl<R: Drop, B: Drop, E> Play<Option<Content<R, B>>, LinkedList<PassView<R, B, 
 }
 
 fn has_number<P: Plan>(passes: &[Pass<P>], number: u8) -> bool
-    ensures { result ≡ among (map (λ p. p.number) passes.now) number }
+    ensures { result ≡ among (map (λ p. number_of p) passes.now) number }
 {
-    passes.iter().any(|pass| pass.number == number)
+    passes.iter().any(|pass| pass.number() == number)
 }
 
 fn has_all<P: Plan>(passes: &[Pass<P>], count: u8) -> bool
-    ensures { IsTrue result ↔ HasAll count (map (λ p. p.number) passes.now) }
+    ensures { IsTrue result ↔ HasAll count (map (λ p. number_of p) passes.now) }
 {
     for number in 0..count {
         if !has_number(passes, number) {
@@ -58,10 +58,10 @@ fn has_all<P: Plan>(passes: &[Pass<P>], count: u8) -> bool
 impl<P: Plan> Iron<P> {
     // One seat that knows all that the passes know.
     fn gather(&self, passes: Vec<Pass<P>>) -> Seat<Slot<P>, Views<P>>
-        requires tables { All (λ p. p.seat.table_id ≡ self.now.table.shared.table_id) passes.items }
-        requires idle { All (λ p. IsIdle (view p.seat.me)) passes.items }
+        requires tables { All (λ p. IsPassOf self.now p) passes.items }
+        requires idle { All (λ p. IsIdle (view_of p)) passes.items }
         ensures table { result.table_id ≡ self.now.table.shared.table_id }
-        ensures seat { result.me ≡ (map (λ p. view p.seat.me) passes.items, []) }
+        ensures seat { result.me ≡ (map (λ p. view_of p) passes.items, []) }
     {
         let (_, mut seat) = self.table.shared.load_new_seat::<Begin>(0);
         for pass in passes {
@@ -186,11 +186,11 @@ impl<P: Plan> Iron<P> {
 impl<P: Plan> Iron<P> {
     /// The words, the rows and the book of the table, if all of its passes are given back. They are outside and have nothing.
     pub fn close(self, passes: Vec<Pass<P>>) -> IronClose<P>
-        requires tables { All (λ p. p.seat.table_id ≡ self.table.shared.table_id) passes.items }
-        requires idle { All (λ p. IsIdle (view p.seat.me)) passes.items }
-        ensures closed { (parts : _) → result ≡ IronClose.Closed parts → HasAll self.layout.passes (map (λ p. p.number) passes.items)
-            × IsClosed P.meaning self.layout (map (λ p. view p.seat.me) passes.items) parts.words.items parts.epochs.items parts.rows.items parts.book }
-        ensures not_all { (iron : _) (back : _) → result ≡ IronClose.NotAll iron back → ¬ HasAll self.layout.passes (map (λ p. p.number) passes.items) × (iron ≡ self) × (back ≡ passes) }
+        requires tables { All (λ p. IsPassOf self p) passes.items }
+        requires idle { All (λ p. IsIdle (view_of p)) passes.items }
+        ensures closed { (parts : _) → result ≡ IronClose.Closed parts → HasAll (layout_of self).passes (map (λ p. number_of p) passes.items)
+            × IsClosed P.meaning (layout_of self) (map (λ p. view_of p) passes.items) parts.words.items parts.epochs.items parts.rows.items parts.book }
+        ensures not_all { (iron : _) (back : _) → result ≡ IronClose.NotAll iron back → ¬ HasAll (layout_of self).passes (map (λ p. number_of p) passes.items) × (iron ≡ self) × (back ≡ passes) }
     {
         if !has_all(passes.as_slice(), self.layout.passes) {
             return IronClose::NotAll(self, passes);

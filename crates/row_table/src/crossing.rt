@@ -1,6 +1,6 @@
 //! Enter and leave.
 ghost use Rattle.std.specs.Prelude.{◌≡◌, ◌<◌, None, IsSome};
-ghost use Rattle.row_table.specs.Rule.{view};
+ghost use Rattle.row_table.specs.Passes.{view_of, kit_of, table_of, IsPassOf};
 ghost use Rattle.row_table.specs.Crossings.{Enters, left};
 
 use crate::answers::Worn;
@@ -41,12 +41,11 @@ impl<R: Drop, B: Drop, E> Play<Option<Content<R, B>>, LinkedList<PassView<R, B, 
 impl<P: Plan> Pass<P> {
     /// Goes inside: the pass stands on row 0. A worn epoch word counts no more, and then nothing changes.
     pub fn enter(&mut self, iron: &Iron<P>) -> Result<(), Worn>
-        requires table { self.old.seat.table_id ≡ iron.now.table.shared.table_id }
-        requires number { self.old.number < iron.now.layout.passes }
-        requires outside { (view self.old.seat.me).core.stand ≡ None }
-        ensures table { self.new.seat.table_id ≡ self.old.seat.table_id }
-        ensures same { (self.new.number ≡ self.old.number) × (self.new.kit ≡ self.old.kit) }
-        ensures enters { Enters (view self.old.seat.me) result (view self.new.seat.me) }
+        requires table { IsPassOf iron.now self.old }
+        requires outside { (view_of self.old).core.stand ≡ None }
+        ensures table { table_of self.new ≡ table_of self.old }
+        ensures same { kit_of self.new ≡ kit_of self.old }
+        ensures enters { Enters (view_of self.old) result (view_of self.new) }
     {
         let word = iron.layout.epoch(self.number) as usize;
         let found = iron.table.shared.load::<ReadEpoch>(&mut self.seat, word);
@@ -61,12 +60,11 @@ impl<P: Plan> Pass<P> {
 
     /// Goes outside: the pass stands on no row.
     pub fn leave(&mut self, iron: &Iron<P>)
-        requires table { self.old.seat.table_id ≡ iron.now.table.shared.table_id }
-        requires number { self.old.number < iron.now.layout.passes }
-        requires inside { IsSome (view self.old.seat.me).core.stand }
-        ensures table { self.new.seat.table_id ≡ self.old.seat.table_id }
-        ensures same { (self.new.number ≡ self.old.number) × (self.new.kit ≡ self.old.kit) }
-        ensures leaves { view self.new.seat.me ≡ left (view self.old.seat.me) }
+        requires table { IsPassOf iron.now self.old }
+        requires inside { IsSome (view_of self.old).core.stand }
+        ensures table { table_of self.new ≡ table_of self.old }
+        ensures same { kit_of self.new ≡ kit_of self.old }
+        ensures leaves { view_of self.new ≡ left (view_of self.old) }
     {
         let word = iron.layout.epoch(self.number) as usize;
         iron.table

@@ -5,8 +5,10 @@ mod answers;
 mod boot;
 mod close;
 mod crossing;
+mod linking;
 mod looking;
 mod marking;
+mod opening;
 mod pass;
 mod plan;
 mod rooms;
@@ -14,6 +16,7 @@ mod stack;
 mod table;
 #[cfg(test)]
 mod tests;
+mod uses;
 mod view;
 
 pub use answers::{Grabbed, Turned, Worn};

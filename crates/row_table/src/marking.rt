@@ -2,7 +2,7 @@
 ghost use Rattle.std.specs.Prelude.{◌≡◌, ◌<◌};
 ghost use Rattle.walk_core.specs.Lists.{Has};
 ghost use Rattle.walk_core.specs.Core.{unlinked_rows};
-ghost use Rattle.row_table.specs.Rule.{view};
+ghost use Rattle.row_table.specs.Passes.{view_of, kit_of, table_of, IsPassOf};
 ghost use Rattle.row_table.specs.Moves.{released};
 
 use crate::pass::Pass;
@@ -24,14 +24,13 @@ impl<R: Drop, B: Drop, E> Play<Option<Content<R, B>>, LinkedList<PassView<R, B, 
 impl<P: Plan> Pass<P> {
     /// Lets a row go that the pass unlinked, with a blank content. Nobody may take it from then on.
     pub fn mark_stale(&mut self, iron: &Iron<P>, row: u32, content: P::Row)
-        requires table { self.old.seat.table_id ≡ iron.now.table.shared.table_id }
-        requires row { row < iron.now.layout.rows }
-        requires held { Has (view self.old.seat.me).core.held row }
-        requires unlinked { Has (unlinked_rows (view self.old.seat.me).core) row }
+        requires table { IsPassOf iron.now self.old }
+        requires held { Has (view_of self.old).core.held row }
+        requires unlinked { Has (unlinked_rows (view_of self.old).core) row }
         requires blank { P.meaning.is_blank content }
-        ensures table { self.new.seat.table_id ≡ self.old.seat.table_id }
-        ensures same { (self.new.number ≡ self.old.number) × (self.new.kit ≡ self.old.kit) }
-        ensures marks { view self.new.seat.me ≡ released (view self.old.seat.me) row }
+        ensures table { table_of self.new ≡ table_of self.old }
+        ensures same { kit_of self.new ≡ kit_of self.old }
+        ensures marks { view_of self.new ≡ released (view_of self.old) row }
     {
         bring(&mut self.seat, &mut self.stack, row);
         self.stack.pop_front();

@@ -3,6 +3,7 @@ ghost use Rattle.std.specs.Prelude.{◌≡◌, ℕ, ◌+◌, ◌<◌, ◌≤◌,
 ghost use Rattle.std.specs.VecDeque.{deque_capacity};
 ghost use Rattle.walk_core.specs.Lists.{Has};
 ghost use Rattle.row_table.specs.Rule.{view, IsOne, SameRows};
+ghost use Rattle.row_table.specs.Known.{IsSized};
 ghost use Rattle.row_table.specs.Moves.{MayGrab, NotInHand, Fits, released};
 ghost use Rattle.row_table.specs.Stack.{outs, carried, AreRows};
 ghost use Rattle.row_table.specs.Books.{Turns, Gives, IsGivable};
@@ -64,7 +65,7 @@ pub struct Pass<P: Plan> {
     pub(crate) stack: VecDeque<u32>,
     pub(crate) kit: Option<P::Kit>,
     ghost one: { IsOne number seat.me },
-    ghost slots: { seat.table_id.slots ≡ rows + 1 },
+    ghost sized: { IsSized number rows seat.table_id (view seat.me) },
     ghost stacked: { seat.me.1 ≡ outs stack.items },
     ghost carries: { SameRows stack.items (carried rows (view seat.me).core.held (view seat.me).core.has_book) },
     ghost held: { AreRows rows (view seat.me).core.held },
@@ -73,42 +74,42 @@ pub struct Pass<P: Plan> {
 }
 
 impl<P: Plan> Pass<P> {
+    ghost use Rattle.row_table.specs.Passes.{view_of, kit_of, table_of, IsPassOf};
+
     /// Takes a row if nobody holds it.
     pub fn grab(&mut self, iron: &Iron<P>, row: u32) -> Grabbed<P::Row>
-        requires table { self.old.seat.table_id ≡ iron.now.table.shared.table_id }
-        requires row { row < iron.now.layout.rows }
-        requires guard { MayGrab (view self.old.seat.me) row }
-        ensures table { self.new.seat.table_id ≡ self.old.seat.table_id }
-        ensures same { (self.new.number ≡ self.old.number) × (self.new.kit ≡ self.old.kit) }
-        ensures grabs { Grabs row (view self.old.seat.me) result (view self.new.seat.me) }
+        requires table { IsPassOf iron.now self.old }
+        requires guard { MayGrab (view_of self.old) row }
+        ensures table { table_of self.new ≡ table_of self.old }
+        ensures same { kit_of self.new ≡ kit_of self.old }
+        ensures grabs { Grabs row (view_of self.old) result (view_of self.new) }
     {
         let word = iron.layout.lock(row) as usize;
         let mine = u64::from(self.number) + 1;
-        let found = iron
+        let before = iron
             .table
             .shared
             .compare_exchange::<Grab>(&mut self.seat, word, 0, mine);
-        if found == 0 {
+        if before == 0 {
             self.stack.push_front_reserved(row);
             return Grabbed::Got(iron.take_row(&mut self.seat, row));
         }
-        if found == 256 {
+        if before == 256 {
             Grabbed::Stale
         } else {
-            Grabbed::Held((found - 1) as u8)
+            Grabbed::Held((before - 1) as u8)
         }
     }
 
     /// Gives a row back, with this content.
     pub fn release(&mut self, iron: &Iron<P>, row: u32, content: P::Row)
-        requires table { self.old.seat.table_id ≡ iron.now.table.shared.table_id }
-        requires row { row < iron.now.layout.rows }
-        requires held { Has (view self.old.seat.me).core.held row }
-        requires linked { NotInHand (view self.old.seat.me) row }
-        requires fits { Fits P.meaning (view self.old.seat.me) row content }
-        ensures table { self.new.seat.table_id ≡ self.old.seat.table_id }
-        ensures same { (self.new.number ≡ self.old.number) × (self.new.kit ≡ self.old.kit) }
-        ensures releases { view self.new.seat.me ≡ released (view self.old.seat.me) row }
+        requires table { IsPassOf iron.now self.old }
+        requires held { Has (view_of self.old).core.held row }
+        requires linked { NotInHand (view_of self.old) row }
+        requires fits { Fits P.meaning (view_of self.old) row content }
+        ensures table { table_of self.new ≡ table_of self.old }
+        ensures same { kit_of self.new ≡ kit_of self.old }
+        ensures releases { view_of self.new ≡ released (view_of self.old) row }
     {
         bring(&mut self.seat, &mut self.stack, row);
         self.stack.pop_front();
@@ -119,13 +120,15 @@ impl<P: Plan> Pass<P> {
 }
 
 impl<P: Plan> Pass<P> {
+    ghost use Rattle.row_table.specs.Passes.{view_of, kit_of, table_of, layout_of, IsPassOf};
+
     /// Takes the book if no pass has it.
     pub fn turn(&mut self, iron: &Iron<P>) -> Turned<P::Book>
-        requires table { self.old.seat.table_id ≡ iron.now.table.shared.table_id }
-        requires free { (view self.old.seat.me).core.has_book ≡ false }
-        ensures table { self.new.seat.table_id ≡ self.old.seat.table_id }
-        ensures same { (self.new.number ≡ self.old.number) × (self.new.kit ≡ self.old.kit) }
-        ensures turns { Turns P.meaning iron.now.layout.rows (view self.old.seat.me) result (view self.new.seat.me) }
+        requires table { IsPassOf iron.now self.old }
+        requires free { (view_of self.old).core.has_book ≡ false }
+        ensures table { table_of self.new ≡ table_of self.old }
+        ensures same { kit_of self.new ≡ kit_of self.old }
+        ensures turns { Turns P.meaning (layout_of iron.now).rows (view_of self.old) result (view_of self.new) }
     {
         let word = iron.layout.book() as usize;
         let mine = u64::from(self.number) + 1;
@@ -142,12 +145,12 @@ impl<P: Plan> Pass<P> {
 
     /// Gives the book back in this form.
     pub fn give(&mut self, iron: &Iron<P>, book: P::Book)
-        requires table { self.old.seat.table_id ≡ iron.now.table.shared.table_id }
-        requires has { (view self.old.seat.me).core.has_book ≡ true }
-        requires may { IsGivable P.meaning iron.now.layout (view self.old.seat.me) book }
-        ensures table { self.new.seat.table_id ≡ self.old.seat.table_id }
-        ensures same { (self.new.number ≡ self.old.number) × (self.new.kit ≡ self.old.kit) }
-        ensures gives { Gives P.meaning (view self.old.seat.me) book (view self.new.seat.me) }
+        requires table { IsPassOf iron.now self.old }
+        requires has { (view_of self.old).core.has_book ≡ true }
+        requires may { IsGivable P.meaning (layout_of iron.now) (view_of self.old) book }
+        ensures table { table_of self.new ≡ table_of self.old }
+        ensures same { kit_of self.new ≡ kit_of self.old }
+        ensures gives { Gives P.meaning (view_of self.old) book (view_of self.new) }
     {
         bring(&mut self.seat, &mut self.stack, self.rows);
         self.stack.pop_front();
@@ -158,27 +161,29 @@ impl<P: Plan> Pass<P> {
 }
 
 impl<P: Plan> Pass<P> {
+    ghost use Rattle.row_table.specs.Passes.{view_of, number_of, kit_of, table_of};
+
     /// The pass's place among those of its table.
     pub fn number(&self) -> u8
-        ensures { result ≡ self.now.number }
+        ensures { result ≡ number_of self.now }
     {
         self.number
     }
 
     /// Takes the kit out.
     pub fn take_kit(&mut self) -> P::Kit
-        requires { IsSome self.old.kit }
-        ensures kit { (self.old.kit ≡ Some result) × (self.new.kit ≡ None) }
-        ensures same { (self.new.number ≡ self.old.number) × (self.new.seat ≡ self.old.seat) }
+        requires { IsSome (kit_of self.old) }
+        ensures kit { (kit_of self.old ≡ Some result) × (kit_of self.new ≡ None) }
+        ensures same { (view_of self.new ≡ view_of self.old) × (table_of self.new ≡ table_of self.old) }
     {
         self.kit.take().unwrap()
     }
 
     /// Puts the kit back.
     pub fn put_kit(&mut self, kit: P::Kit)
-        requires { self.old.kit ≡ None }
-        ensures kit { self.new.kit ≡ Some kit }
-        ensures same { (self.new.number ≡ self.old.number) × (self.new.seat ≡ self.old.seat) }
+        requires { kit_of self.old ≡ None }
+        ensures kit { kit_of self.new ≡ Some kit }
+        ensures same { (view_of self.new ≡ view_of self.old) × (table_of self.new ≡ table_of self.old) }
     {
         self.kit = Some(kit);
     }

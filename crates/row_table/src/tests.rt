@@ -1,36 +1,20 @@
-ghost use Rattle.std.specs.Prelude.{◌≡◌, ◌<◌, ℕ, length, IfOk, true};
-ghost use Rattle.row_table.specs.Rule.{view};
+ghost use Rattle.std.specs.Prelude.{◌≡◌, ◌<◌, ℕ, length, IfOk, IsSome, true};
+ghost use Rattle.row_table.specs.Passes.{view_of, kit_of, table_of, IsPassOf};
 ghost use Rattle.row_table.specs.Close.{IsIdle};
 
-use crate::{Grabbed, Iron, IronClose, Layout, Pass, Plan, Turned};
+use crate::uses::{Tally, Visit, add_entry, look_in};
+use crate::{Grabbed, Iron, IronClose, Layout, Pass};
 use std::alloc::{AllocError, Global};
 use std::sync::Wait;
 use std::test::Fail;
 use std::thread;
 use std::thread::{Threads, join};
 
-struct Tally;
-
-impl Plan for Tally {
-    ghost use Rattle.row_table.specs.Tally.{tally, lawful};
-
-    type Row = u8;
-
-    type Book = Vec<(u8, u32)>;
-
-    type Kit = ();
-
-    type Entry = (u8, u32);
-
-    ghost meaning = { tally };
-
-    ghost lawful = { lawful };
-}
-
 // A table of two rows, and its two passes.
 fn made(alloc: Global) -> Result<(Iron<Tally>, Pass<Tally>, Pass<Tally>), AllocError>
-    ensures first { IfOk result (λ r. (r.1.seat.table_id ≡ r.0.table.shared.table_id) × IsIdle (view r.1.seat.me)) }
-    ensures second { IfOk result (λ r. (r.2.seat.table_id ≡ r.0.table.shared.table_id) × IsIdle (view r.2.seat.me)) }
+    ensures first { IfOk result (λ r. IsPassOf r.0 r.1 × IsIdle (view_of r.1)) }
+    ensures second { IfOk result (λ r. IsPassOf r.0 r.2 × IsIdle (view_of r.2)) }
+    ensures kit { IfOk result (λ r. IsSome (kit_of r.1)) }
 {
     let mut rows = Vec::new(alloc);
     rows.push(0u8)?;
@@ -51,44 +35,37 @@ fn made(alloc: Global) -> Result<(Iron<Tally>, Pass<Tally>, Pass<Tally>), AllocE
 
 // The pass enters and tries row 0, on which it stands then.
 fn enter_and_grab(iron: &Iron<Tally>, pass: &mut Pass<Tally>) -> Option<Grabbed<u8>>
-    requires table { pass.old.seat.table_id ≡ iron.now.table.shared.table_id }
-    requires idle { IsIdle (view pass.old.seat.me) }
+    requires table { IsPassOf iron.now pass.old }
+    requires idle { IsIdle (view_of pass.old) }
 {
-    if pass.number() >= iron.layout().passes {
-        return None;
-    }
     match pass.enter(iron) {
         Ok(()) => Some(pass.grab(iron, 0)),
         Err(_) => None,
     }
 }
 
-// Takes the book, waiting for it, and adds an entry.
+// Adds an entry, waiting for the book.
 fn note<R: Wait>(rt: &R, iron: &Iron<Tally>, pass: &mut Pass<Tally>, count: u32)
-    requires table { pass.old.seat.table_id ≡ iron.now.table.shared.table_id }
-    requires idle { IsIdle (view pass.old.seat.me) }
-    ensures table { pass.new.seat.table_id ≡ pass.old.seat.table_id }
-    ensures idle { IsIdle (view pass.new.seat.me) }
+    requires table { IsPassOf iron.now pass.old }
+    requires idle { IsIdle (view_of pass.old) }
+    ensures table { table_of pass.new ≡ table_of pass.old }
+    ensures idle { IsIdle (view_of pass.new) }
 {
     for _ in rt.forever() {
-        match pass.turn(iron) {
-            Turned::Got(mut entries) => {
-                let _ = entries.push((pass.number(), count));
-                pass.give(iron, entries);
-                return;
-            }
-            Turned::Held(_) => thread::yield_now(),
+        if add_entry(iron, pass, count) {
+            return;
         }
+        thread::yield_now();
     }
     unreachable!()
 }
 
 // What one thread does.
 fn run<R: Wait>(rt: &R, iron: &Iron<Tally>, mut pass: Pass<Tally>) -> Pass<Tally>
-    requires table { pass.seat.table_id ≡ iron.now.table.shared.table_id }
-    requires idle { IsIdle (view pass.seat.me) }
-    ensures table { result.seat.table_id ≡ pass.seat.table_id }
-    ensures idle { IsIdle (view result.seat.me) }
+    requires table { IsPassOf iron.now pass }
+    requires idle { IsIdle (view_of pass) }
+    ensures table { table_of result ≡ table_of pass }
+    ensures idle { IsIdle (view_of result) }
 {
     for count in 0..1000 {
         note(rt, iron, &mut pass, count);
@@ -149,7 +126,29 @@ fn a_table_is_not_closed_without_a_pass(rt: HostRuntime) -> Result<(), Fail> {
 fn a_held_row_names_its_holder(rt: HostRuntime) -> Result<(), Fail> {
     let (iron, mut first, mut second) = made(rt.alloc())?;
     let got = matches!(enter_and_grab(&iron, &mut first), Some(Grabbed::Got(_)));
-    let held = matches!(enter_and_grab(&iron, &mut second), Some(Grabbed::Held(0)));
-    assert!(rt; got && held);
+    let visit = look_in(&iron, &mut second, 1, 1);
+    assert!(rt; got);
+    assert_eq!(rt; visit, Visit::Held(0));
+    Ok(())
+}
+
+// Row 0 links row 1 at its first entry, and no other row is linked.
+#[test]
+fn a_look_follows_a_link(rt: HostRuntime) -> Result<(), Fail> {
+    let (iron, mut first, _) = made(rt.alloc())?;
+    let below = look_in(&iron, &mut first, 0, 7);
+    let at_the_top = look_in(&iron, &mut first, 1, 1);
+    assert_eq!(rt; below, Visit::Got(1));
+    assert_eq!(rt; at_the_top, Visit::Got(0));
+    Ok(())
+}
+
+#[test]
+fn a_kit_is_taken_out_and_put_back(rt: HostRuntime) -> Result<(), Fail> {
+    let (_, mut first, _) = made(rt.alloc())?;
+    let kit = first.take_kit();
+    first.put_kit(kit);
+    let again = first.take_kit();
+    assert_eq!(rt; again, ());
     Ok(())
 }

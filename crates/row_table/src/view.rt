@@ -1,4 +1,5 @@
 //! What a pass knows. No value of these types is made: clauses and proofs alone speak of them.
+use row_layout::Layout;
 use std::collections::LinkedList;
 use table_place::Place;
 use walk_core::PassCore;
@@ -12,10 +13,12 @@ pub struct HeldRow<R> {
     pub words: LinkedList<u64>,
     /// Its entry words when it was grabbed.
     pub words_found: LinkedList<u64>,
-    /// What the grab found in it.
-    pub found: R,
+    /// What the grab found in it, and nothing in a row that the pass opened.
+    pub found: Option<R>,
     /// Whether the pass has given the book since the grab.
     pub is_given: bool,
+    /// The entries that have been no link since the pass gave the book last, where it held the row then.
+    pub vacant: LinkedList<u32>,
 }
 
 /// A row that a give granted and that was not linked since.
@@ -27,6 +30,8 @@ pub struct HandRow {
     pub low: u64,
     /// And below this one.
     pub high: u64,
+    /// The position that it was set up with since the give.
+    pub place: Option<Place>,
 }
 
 /// A word that a look or a grab found.
@@ -42,6 +47,8 @@ pub struct Finding {
 /// What one pass knows of the shared table.
 pub struct PassView<R, B, E> {
     pub number: u8,
+    /// The sizes of its table.
+    pub layout: Layout,
     /// Its stand, the rows that it holds, its hand, whether it has the book, and its samples.
     pub core: PassCore,
     /// The number of its own epoch word.

@@ -1,9 +1,12 @@
--- Bytes as pairs of hexadecimal digits: joined lists, and reading from the front.
-use Rattle.std.proofs.Common.{◌≡◌, ℕ, ◌+◌, ◌-◌, ◌*◌, ◌/◌, ◌%◌, ◌<◌, ◌≤◌, false, List, [], ◌∷◌, ◌++◌, take, drop, length, get_or, refl, sym, ap, subst, ◌∙◌, arith}
+-- Bytes as pairs of hexadecimal digits: joined lists, and digits in pairs.
+use Rattle.std.proofs.Common.{◌≡◌, ℕ, zero, suc, ◌+◌, ◌*◌, ◌/◌, ◌%◌, ◌<◌, Bool, true, false, ◌&&◌, List, [], ◌∷◌, ◌++◌, map, take, length, get_or, refl, sym, ap, ◌∙◌, arith}
 use Rattle.std.specs.Fmt.{digit_glyph}
-use Rattle.std.specs.List.{All}
-use Rattle.std.proofs.lemmas.List.{append-nil, append_assoc, nil_from_length, take_all, take_more}
-use Rattle.std.proofs.lemmas.List.Elements.{All-head, All-tail}
+use Rattle.std.specs.List.{All, list_all}
+use Rattle.std.specs.Simd.{first_chunks}
+use Rattle.std.proofs.lemmas.Bool.Decides.{nat_tests}
+use Rattle.std.proofs.lemmas.List.{append_assoc, take_more}
+use Rattle.std.proofs.lemmas.List.Elements.{All-nil, All-cons, All-head, All-tail}
+use Rattle.text_words.specs.Digits.{is_digit, value_of, pair_value}
 use Rattle.text_words.specs.Spelling.{hex}
 
 -- the digits of a byte
@@ -40,62 +43,64 @@ printed_more front bytes out i high low inside so_far high_is low_is =
     ∙ ap (λ cs. front ++ cs) (sym (hex_push (take i bytes) (get_or bytes i 0)))
     ∙ ap (λ bs. front ++ hex bs) (sym (take_more bytes i 0 inside))
 
+-- ---- the digits of bytes are digits, and there are two for each byte
+
 pub length-hex : (bytes : List ℕ) → length (hex bytes) ≡ 2 * length bytes
 unfolding hex
 length-hex [] = refl
 length-hex (b ∷ bytes) = omega (arith, length-hex bytes)
 
--- what is left of a word after the digits of some bytes, where the word is the digits of bytes
-pub record IsHex (rest : List ℕ) : Type 0 where
-  pub bytes : List ℕ
-  pub fit : All (λ b. b < 256) bytes
-  pub spelled : rest ≡ hex bytes
+is_digit-glyph : (d : ℕ) → d < 16 → is_digit (digit_glyph false d) ≡ true
+is_digit-glyph d small = grind (arith, nat_tests)
 
-pub rest_is_hex : (xs ys rest : List ℕ) → All (λ b. b < 256) ys → hex xs ++ rest ≡ hex ys → IsHex rest
+pub list_all-hex : (bytes : List ℕ) → All (λ b. b < 256) bytes → list_all is_digit (hex bytes) ≡ true
 unfolding hex
-rest_is_hex [] ys rest fit is = record { bytes = ys; fit = fit; spelled = is }
-rest_is_hex (x ∷ xs) [] rest fit is = absurd (cc)
-rest_is_hex (x ∷ xs) (y ∷ ys) rest fit is = rest_is_hex xs ys rest (All-tail (λ b. b < 256) y ys fit) (cc)
+list_all-hex [] fit = refl
+list_all-hex (b ∷ bytes) fit =
+    let small : b < 256 = All-head (λ x. x < 256) b bytes fit in
+    let high : is_digit (high_of b) ≡ true = is_digit-glyph (b / 16) (omega arith) in
+    let low : is_digit (low_of b) ≡ true = is_digit-glyph (b % 16) (omega arith) in
+    rw high (rw low (list_all-hex bytes (All-tail (λ x. x < 256) b bytes fit)))
 
-pair_of : (high low : ℕ) (rest bytes : List ℕ) → All (λ b. b < 256) bytes → high ∷ low ∷ rest ≡ hex bytes → (b : ℕ) × (b < 256) × (high ≡ high_of b) × (low ≡ low_of b)
+-- ---- digits in pairs are those of bytes
+
+glyph-value_of : (digit : ℕ) → is_digit digit ≡ true → digit_glyph false (value_of digit) ≡ digit
+glyph-value_of digit is = grind (arith, nat_tests)
+
+value_of_small : (digit : ℕ) → value_of digit < 16
+value_of_small digit = omega arith
+
+high_of-pair : (x y : ℕ) → is_digit x ≡ true → high_of (16 * value_of x + value_of y) ≡ x
+high_of-pair x y is =
+    let small = value_of_small y in
+    let e : (16 * value_of x + value_of y) / 16 ≡ value_of x = omega arith in
+    ap (digit_glyph false) e ∙ glyph-value_of x is
+
+low_of-pair : (x y : ℕ) → is_digit y ≡ true → low_of (16 * value_of x + value_of y) ≡ y
+low_of-pair x y is =
+    let small = value_of_small y in
+    let e : (16 * value_of x + value_of y) % 16 ≡ value_of y = omega arith in
+    ap (digit_glyph false) e ∙ glyph-value_of y is
+
+both : (a b : Bool) → (a && b) ≡ true → (a ≡ true) × (b ≡ true)
+both true b h = (refl, h)
+both false b h = cc
+
+-- digits, in pairs
+pub hex-pairs : (n : ℕ) (word : List ℕ) → length word ≡ 2 * n → list_all is_digit word ≡ true → hex (map pair_value (first_chunks 2 n word)) ≡ word
 unfolding hex
-pair_of high low rest [] fit is = absurd (cc)
-pair_of high low rest (b ∷ bytes) fit is = (b, All-head (λ b. b < 256) b bytes fit, cc, cc)
+hex-pairs zero [] even are = refl
+hex-pairs zero (x ∷ word) even are = absurd (omega arith)
+hex-pairs (suc n) [] even are = absurd (omega arith)
+hex-pairs (suc n) (x ∷ []) even are = absurd (omega arith)
+hex-pairs (suc n) (x ∷ y ∷ word) even are =
+    let front = both (is_digit x) (is_digit y && list_all is_digit word) are in
+    let back = both (is_digit y) (list_all is_digit word) front.1 in
+    let high = high_of-pair x y front.0 in
+    let low = low_of-pair x y back.0 in
+    let more = hex-pairs n word (omega arith) back.1 in
+    cc
 
--- two digits at the front are those of a byte
-pub pair_is_byte : (high low : ℕ) (rest : List ℕ) → IsHex (high ∷ low ∷ rest) → (b : ℕ) × (b < 256) × (high ≡ high_of b) × (low ≡ low_of b)
-pair_is_byte high low rest h = pair_of high low rest h.bytes h.fit h.spelled
-
--- two elements at the front, as a pattern reads them
-pub pair_front : (rest : List ℕ) (n : ℕ) → 2 ≤ length rest → n ≡ length rest - 2 → rest ≡ get_or rest 0 0 ∷ get_or rest 1 0 ∷ take n (drop 2 rest)
-pair_front [] n two e = absurd (omega arith)
-pair_front (x ∷ []) n two e = absurd (omega arith)
-pair_front (x ∷ y ∷ rest) n two e = ap (λ ys. x ∷ y ∷ ys) (sym (take_all n rest (omega arith)))
-
--- one more byte is read
-pub read_more : (bytes rest word : List ℕ) (n byte : ℕ) → hex bytes ++ rest ≡ word → 2 ≤ length rest → n ≡ length rest - 2 → get_or rest 0 0 ≡ high_of byte → get_or rest 1 0 ≡ low_of byte → hex (bytes ++ byte ∷ []) ++ take n (drop 2 rest) ≡ word
-read_more bytes rest word n byte so_far two e high low =
-    ap (λ cs. cs ++ take n (drop 2 rest)) (hex_push bytes byte)
-    ∙ append_assoc (hex bytes) (high_of byte ∷ low_of byte ∷ []) (take n (drop 2 rest))
-    ∙ ap (λ c. hex bytes ++ (c ∷ low_of byte ∷ take n (drop 2 rest))) (sym high)
-    ∙ ap (λ c. hex bytes ++ (get_or rest 0 0 ∷ c ∷ take n (drop 2 rest))) (sym low)
-    ∙ ap (λ cs. hex bytes ++ cs) (sym (pair_front rest n two e))
-    ∙ so_far
-
--- the digits of a byte are missing
-pub no_byte : (bytes rest word bs : List ℕ) → hex bytes ++ rest ≡ word → 2 ≤ length rest → ((b : ℕ) → b < 256 → get_or rest 0 0 ≡ high_of b → get_or rest 1 0 ≡ low_of b → ⊥) → All (λ b. b < 256) bs → word ≡ hex bs → ⊥
-no_byte bytes rest word bs so_far two none fit is =
-    let left : IsHex rest = rest_is_hex bytes bs rest fit (so_far ∙ is) in
-    let pair = pair_is_byte (get_or rest 0 0) (get_or rest 1 0) (take (length rest - 2) (drop 2 rest)) (subst IsHex (pair_front rest (length rest - 2) two refl) left) in
-    none pair.0 pair.1 pair.2 pair.3
-
--- a word that is read to its end, or to one digit
-pub read_all : (bytes rest word : List ℕ) → hex bytes ++ rest ≡ word → length rest ≡ 0 → word ≡ hex bytes
-read_all bytes rest word so_far none = sym so_far ∙ ap (λ cs. hex bytes ++ cs) (nil_from_length rest none) ∙ append-nil (hex bytes)
-
-pub single_left : (bytes rest word bs : List ℕ) → hex bytes ++ rest ≡ word → length rest ≡ 1 → All (λ b. b < 256) bs → word ≡ hex bs → ⊥
-single_left bytes rest word bs so_far one fit is =
-    let left : IsHex rest = rest_is_hex bytes bs rest fit (so_far ∙ is) in
-    let even = length-hex left.bytes in
-    let same : length rest ≡ length (hex left.bytes) = ap length left.spelled in
-    omega arith
+pub pairs_fit : (chunks : List (List ℕ)) → All (λ b. b < 256) (map pair_value chunks)
+pairs_fit [] = All-nil (λ b. b < 256)
+pairs_fit (pair ∷ chunks) = All-cons (λ b. b < 256) (pair_value pair) (map pair_value chunks) (omega arith) (pairs_fit chunks)

@@ -15,7 +15,7 @@ pub fn digit(value: u8) -> u8
 }
 
 /// The value of a digit.
-pub fn digit_value(digit: u8) -> Option<u8>
+fn digit_value(digit: u8) -> Option<u8>
     ensures found { IfSome result (λ d. (d < 16) × (digit ≡ digit_glyph false d)) }
     ensures none { IfNone result ((d : ℕ) → d < 16 → digit ≢ digit_glyph false d) }
 {

@@ -1,9 +1,11 @@
 //! Bytes as pairs of hexadecimal digits.
-ghost use Rattle.std.specs.Prelude.{◌≡◌, ◌≢◌, ℕ, ◌/◌, ◌%◌, ◌<◌, ◌++◌, List, All, false, IfOk, IfSome, IfNone, OnOk, OnErr};
-ghost use Rattle.std.specs.Fmt.{digit_glyph};
+ghost use Rattle.std.specs.Prelude.{◌≡◌, ◌≢◌, ℕ, ◌/◌, ◌%◌, ◌<◌, ◌++◌, List, All, map, length, IfOk, IfSome, IfNone, OnOk, OnErr};
+ghost use Rattle.std.specs.List.{list_all};
+ghost use Rattle.std.specs.Simd.{first_chunks};
+ghost use Rattle.text_words.specs.Digits as definitions;
 ghost use Rattle.text_words.specs.Spelling.{hex};
 
-use crate::digits::{digit, digit_value};
+use crate::digits::digit;
 use std::alloc::{AllocError, Global};
 
 /// Appends two digits for each byte. Without memory nothing is appended.
@@ -19,12 +21,40 @@ pub fn push_hex(out: &mut Vec<u8>, bytes: &[u8]) -> Result<(), AllocError>
     Ok(())
 }
 
-/// The byte of two digits.
-fn byte_of(high: u8, low: u8) -> Option<u8>
-    ensures found { IfSome result (λ b. (high ≡ digit_glyph false (b / 16)) × (low ≡ digit_glyph false (b % 16))) }
-    ensures none { IfNone result ((b : ℕ) → b < 256 → high ≡ digit_glyph false (b / 16) → low ≢ digit_glyph false (b % 16)) }
+/// Whether a byte is a digit.
+fn is_digit(byte: u8) -> bool
+    ensures { result ≡ definitions.is_digit byte }
 {
-    Some(16 * digit_value(high)? + digit_value(low)?)
+    matches!(byte, b'0'..=b'9' | b'a'..=b'f')
+}
+
+/// Whether all bytes of a word are digits. No byte ends the loop, so that it goes over many of them at once.
+fn are_digits(word: &[u8]) -> bool
+    ensures { result ≡ list_all definitions.is_digit word.now }
+{
+    let mut all = true;
+    for byte in word {
+        all &= is_digit(*byte);
+    }
+    all
+}
+
+/// The value of a digit, and below 16 also where the byte is no digit.
+fn value_of(digit: u8) -> u8
+    ensures value { result ≡ definitions.value_of digit }
+    ensures small { result < 16 }
+{
+    (digit % 16 + 9 * (digit / 64)) % 16
+}
+
+/// The bytes whose digits the pairs are.
+fn bytes_of(alloc: Global, pairs: &[[u8; 2]]) -> Result<Vec<u8>, AllocError>
+    ensures { IfOk result (λ bytes. bytes.items ≡ map definitions.pair_value pairs.now) }
+{
+    pairs
+        .iter()
+        .map(|pair| 16 * value_of(pair[0]) + value_of(pair[1]))
+        .collect(alloc)
 }
 
 /// Reads bytes, whose digits are the whole word.
@@ -34,18 +64,9 @@ pub fn read_hex(alloc: Global, word: &[u8]) -> Result<Option<Vec<u8>>, AllocErro
     ensures none { IfOk result (λ read.
         IfNone read ((bytes : List ℕ) → All (λ b. b < 256) bytes → word.now ≢ hex bytes)) }
 {
-    let mut bytes = Vec::with_capacity(alloc, word.len() / 2)?;
-    let mut rest = word;
-    while let [high, low, tail @ ..] = rest {
-        let Some(byte) = byte_of(*high, *low) else {
-            return Ok(None);
-        };
-        bytes.push(byte)?;
-        rest = tail;
+    let (pairs, rest) = word.as_chunks::<2>();
+    if !rest.is_empty() || !are_digits(word) {
+        return Ok(None);
     }
-    if rest.is_empty() {
-        Ok(Some(bytes))
-    } else {
-        Ok(None)
-    }
+    Ok(Some(bytes_of(alloc, pairs)?))
 }

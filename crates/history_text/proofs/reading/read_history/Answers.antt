@@ -4,6 +4,7 @@ use Rattle.text_words.specs.Layout.{TextRest}
 use Rattle.text_words.specs.Passing.{Passes}
 use Rattle.text_words.proofs.Grammars.{first_fault}
 use Rattle.text_words.proofs.Passing.{Passes-append, FaultFrom-behind}
+use Rattle.mm_script.specs.ScriptText.{file_lines}
 use Rattle.mm_script.proofs.Places.{IfBad-weaker}
 use Rattle.history_text.specs.declared.history.History.{History}
 use Rattle.history_text.specs.Accounting.{header_lines, frames_line}
@@ -33,7 +34,7 @@ returns-in_err-body-clause-bad c =
     let limits = c.in_ok-limits.ensures.ok in
     rw (p.1, p.2) (IfBad-weaker c.in_err-body.field-0.0 _ (IsFirstFault bytes)
     (λ n behind. first_fault AreHistoryLines bytes old n c.of-lines.ensures.bytes c.of-lines.ensures.taken
-    (FaultFrom-behind AreHistoryLines old mid [] (header_lines c.in_ok-limits.limits) n limits.1 (behind c.in_ok-limits.limits limits.0)))
+    (FaultFrom-behind AreHistoryLines old mid [] (header_lines c.in_ok-limits.limits []) n limits.1 (behind c.in_ok-limits.limits limits.0)))
     c.in_err-body.ensures.bad)
 
 pub returns-in_err-body-clause-none : goal.returns-in_err-body-clause-none
@@ -45,7 +46,7 @@ returns-in_err-body-clause-none c =
     let limits = c.in_ok-limits.ensures.ok in
     rw (p.1, p.2) (IfBad-weaker c.in_err-body.field-0.0 _ (NoHistory bytes)
     (λ n behind h. fault_refuses bytes n h (first_fault AreHistoryLines bytes old n c.of-lines.ensures.bytes c.of-lines.ensures.taken
-    (FaultFrom-behind AreHistoryLines old mid [] (header_lines c.in_ok-limits.limits) n limits.1 (behind c.in_ok-limits.limits limits.0))))
+    (FaultFrom-behind AreHistoryLines old mid [] (header_lines c.in_ok-limits.limits []) n limits.1 (behind c.in_ok-limits.limits limits.0))))
     c.in_err-body.ensures.bad)
 
 pub returns-in_err-ends-clause-bad : goal.returns-in_err-ends-clause-bad
@@ -58,11 +59,11 @@ returns-in_err-ends-clause-bad c =
     let limits = c.in_ok-limits.ensures.ok in
     let body = c.in_ok-body.ensures.ok in
     let lines : List (List ℕ) = map entry_line c.in_ok-body.body.entries ++ frames_line c.in_ok-body.body.frames ∷ [] in
-    let passed : Passes old last (header_lines c.in_ok-limits.limits ++ lines) = Passes-append old mid last (header_lines c.in_ok-limits.limits) lines limits.1 body.2 in
+    let passed : Passes old last (header_lines c.in_ok-limits.limits c.in_ok-body.body.shelf ++ lines) = Passes-append old mid last (header_lines c.in_ok-limits.limits []) (file_lines c.in_ok-body.body.shelf ++ lines) limits.1 body.3 in
     rw (p.1, p.2) (IfBad-weaker c.in_err-ends.field-0.0 _ (IsFirstFault bytes)
     (λ n behind. first_fault AreHistoryLines bytes old n c.of-lines.ensures.bytes c.of-lines.ensures.taken
-    (FaultFrom-behind AreHistoryLines old last [] (header_lines c.in_ok-limits.limits ++ lines) n passed
-    (behind c.in_ok-limits.limits c.in_ok-body.body.entries c.in_ok-body.body.frames limits.0 body.0 body.1)))
+    (FaultFrom-behind AreHistoryLines old last [] (header_lines c.in_ok-limits.limits c.in_ok-body.body.shelf ++ lines) n passed
+    (behind c.in_ok-limits.limits c.in_ok-body.body.shelf c.in_ok-body.body.entries c.in_ok-body.body.frames limits.0 body.0 body.1 body.2)))
     c.in_err-ends.ensures.bad)
 
 pub returns-in_err-ends-clause-none : goal.returns-in_err-ends-clause-none
@@ -75,11 +76,11 @@ returns-in_err-ends-clause-none c =
     let limits = c.in_ok-limits.ensures.ok in
     let body = c.in_ok-body.ensures.ok in
     let lines : List (List ℕ) = map entry_line c.in_ok-body.body.entries ++ frames_line c.in_ok-body.body.frames ∷ [] in
-    let passed : Passes old last (header_lines c.in_ok-limits.limits ++ lines) = Passes-append old mid last (header_lines c.in_ok-limits.limits) lines limits.1 body.2 in
+    let passed : Passes old last (header_lines c.in_ok-limits.limits c.in_ok-body.body.shelf ++ lines) = Passes-append old mid last (header_lines c.in_ok-limits.limits []) (file_lines c.in_ok-body.body.shelf ++ lines) limits.1 body.3 in
     rw (p.1, p.2) (IfBad-weaker c.in_err-ends.field-0.0 _ (NoHistory bytes)
     (λ n behind h. fault_refuses bytes n h (first_fault AreHistoryLines bytes old n c.of-lines.ensures.bytes c.of-lines.ensures.taken
-    (FaultFrom-behind AreHistoryLines old last [] (header_lines c.in_ok-limits.limits ++ lines) n passed
-    (behind c.in_ok-limits.limits c.in_ok-body.body.entries c.in_ok-body.body.frames limits.0 body.0 body.1))))
+    (FaultFrom-behind AreHistoryLines old last [] (header_lines c.in_ok-limits.limits c.in_ok-body.body.shelf ++ lines) n passed
+    (behind c.in_ok-limits.limits c.in_ok-body.body.shelf c.in_ok-body.body.entries c.in_ok-body.body.frames limits.0 body.0 body.1 body.2))))
     c.in_err-ends.ensures.bad)
 
 pub returns-clause-found : goal.returns-clause-found
@@ -87,8 +88,8 @@ returns-clause-found c =
     let limits = c.in_ok-limits.ensures.ok in
     let body = c.in_ok-body.ensures.ok in
     let ends = c.in_ok-ends.ensures.ok in
-    history_passed c.args.bytes.now c.of-lines.result c.read_header.new.lines c.read_body.new.lines c.read_ends.new.lines c.in_ok-limits.limits c.in_ok-body.body.entries c.in_ok-body.body.frames c.in_ok-ends.ends.swap c.in_ok-ends.ends.tables c.accounts_of.result
-    c.of-lines.ensures.bytes limits.0 body.0 body.1 ends.0 ends.1 limits.1 body.2 ends.2 ends.3 c.accounts_of.ensures.frames c.accounts_of.ensures.swap c.accounts_of.ensures.tables
+    history_passed c.args.bytes.now c.of-lines.result c.read_header.new.lines c.read_body.new.lines c.read_ends.new.lines c.in_ok-limits.limits c.in_ok-body.body.shelf c.in_ok-body.body.entries c.in_ok-body.body.frames c.in_ok-ends.ends.swap c.in_ok-ends.ends.tables c.accounts_of.result
+    c.of-lines.ensures.bytes limits.0 body.0 body.1 body.2 ends.0 ends.1 limits.1 body.3 ends.2 ends.3 c.accounts_of.ensures.frames c.accounts_of.ensures.swap c.accounts_of.ensures.tables
 
 pub returns-clause-only : goal.returns-clause-only
 returns-clause-only c = λ other is_text.
@@ -96,5 +97,5 @@ returns-clause-only c = λ other is_text.
     let body = c.in_ok-body.ensures.ok in
     let ends = c.in_ok-ends.ensures.ok in
     one_history c.args.bytes.now _ other
-    (history_passed c.args.bytes.now c.of-lines.result c.read_header.new.lines c.read_body.new.lines c.read_ends.new.lines c.in_ok-limits.limits c.in_ok-body.body.entries c.in_ok-body.body.frames c.in_ok-ends.ends.swap c.in_ok-ends.ends.tables c.accounts_of.result
-    c.of-lines.ensures.bytes limits.0 body.0 body.1 ends.0 ends.1 limits.1 body.2 ends.2 ends.3 c.accounts_of.ensures.frames c.accounts_of.ensures.swap c.accounts_of.ensures.tables) is_text
+    (history_passed c.args.bytes.now c.of-lines.result c.read_header.new.lines c.read_body.new.lines c.read_ends.new.lines c.in_ok-limits.limits c.in_ok-body.body.shelf c.in_ok-body.body.entries c.in_ok-body.body.frames c.in_ok-ends.ends.swap c.in_ok-ends.ends.tables c.accounts_of.result
+    c.of-lines.ensures.bytes limits.0 body.0 body.1 body.2 ends.0 ends.1 limits.1 body.3 ends.2 ends.3 c.accounts_of.ensures.frames c.accounts_of.ensures.swap c.accounts_of.ensures.tables) is_text

@@ -1,8 +1,8 @@
 use Rattle.std.proofs.Common.{rules, ℕ, Vec, Global}
 use Rattle.std.proofs.lemmas.List.Elements.{All-nil, All-push, All-same}
 use Rattle.row_table.specs.declared.pass.Pass.{Pass}
-use Rattle.row_table.specs.declared.tests.Tally.{Tally}
-use Rattle.row_table.specs.contracts.tests.TallyPlan.TheImpl.{ghosts}
+use Rattle.row_table.specs.declared.uses.Tally.{Tally}
+use Rattle.row_table.specs.contracts.uses.TallyPlan.TheImpl.{ghosts}
 use Rattle.row_table.specs.Rule.{view}
 use Rattle.row_table.specs.Close.{IsIdle}
 use Rattle.row_table.proofs.tests.both.Goals as goal

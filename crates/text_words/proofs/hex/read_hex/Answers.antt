@@ -1,33 +1,35 @@
-use Rattle.std.proofs.Common.{◌≡◌, ◌≢◌, ◌<◌, rules, ◌++◌, length, ◌-◌, refl, sym, ap, ◌∙◌, arith}
-use Rattle.std.proofs.lemmas.List.Elements.{All-nil, All-push}
-use Rattle.std.proofs.lemmas.Bool.{eqb-false}
+use Rattle.std.proofs.Common.{◌≡◌, ◌≢◌, ℕ, ◌<◌, ◌/◌, ◌%◌, ◌*◌, true, length, map, sym, ap, subst, ◌∙◌, arith}
+use Rattle.std.specs.List.{All, list_all}
+use Rattle.std.specs.Simd.{first_chunks}
+use Rattle.std.proofs.lemmas.Bool.{eqb-false, eqb-true}
+use Rattle.text_words.specs.Digits.{is_digit, pair_value}
 use Rattle.text_words.specs.Spelling.{hex}
-use Rattle.text_words.proofs.HexPairs.{hex-nil, read_more, no_byte, single_left}
+use Rattle.text_words.proofs.HexPairs.{length-hex, list_all-hex, hex-pairs, pairs_fit}
 use Rattle.text_words.proofs.hex.read_hex.Goals as goal
+use Rattle.text_words.proofs.hex.read_hex.Goals.{then-not-is_empty-via-then-not-is_empty, then-not-is_empty-via-else-not-is_empty+then-not-are_digits}
 
-pub loop-rest-init : goal.loop-rest-init
-loop-rest-init c = record {
-  read = ap (λ bs. hex bs ++ c.args.word.now) c.in_ok-bytes.ensures.items ∙ ap (λ cs. cs ++ c.args.word.now) hex-nil;
-  fit = rw c.in_ok-bytes.ensures.items (All-nil (λ b. b < 256));
-}
+pub returns-then-not-is_empty-clause-none : goal.returns-then-not-is_empty-clause-none
+returns-then-not-is_empty-clause-none c = λ bytes fit is.
+    let even = length-hex bytes in
+    let same : length c.args.word.now ≡ length (hex bytes) = ap length is in
+    let digits : list_all is_digit c.args.word.now ≡ true = ap (list_all is_digit) is ∙ list_all-hex bytes fit in
+    elim c.then-not-is_empty.branch [
+      | then-not-is_empty-via-then-not-is_empty w ↦
+          let odd : length c.as_chunks.result.1.now ≢ 0 = eqb-false (length c.as_chunks.result.1.now) 0 (sym c.is_empty.ensures ∙ w.if-not-is_empty.true) in
+          let back : length c.as_chunks.result.1.now ≡ length c.args.word.now % 2 = c.as_chunks.ensures.back_len in
+          omega arith
+      | then-not-is_empty-via-else-not-is_empty+then-not-are_digits w ↦ cc
+    ]
 
-pub returns-in_default-byte_of-clause-none : goal.returns-in_default-byte_of-clause-none
-returns-in_default-byte_of-clause-none c = λ bs fit is.
-    no_byte c.loop-rest.bytes.items c.loop-rest.rest.now c.args.word.now bs c.loop-rest.invariant.read c.in-len2-up.len_at_least c.in_default-byte_of.ensures.none fit is
+pub returns-clause-found : goal.returns-clause-found
+returns-clause-found c =
+    let n : ℕ = length c.args.word.now / 2 in
+    let none : length c.as_chunks.result.1.now ≡ 0 = eqb-true (length c.as_chunks.result.1.now) 0 (sym c.is_empty.ensures ∙ c.if-not-is_empty.false) in
+    let back : length c.as_chunks.result.1.now ≡ length c.args.word.now % 2 = c.as_chunks.ensures.back_len in
+    let even : length c.args.word.now ≡ 2 * n = omega arith in
+    let digits : list_all is_digit c.args.word.now ≡ true = sym c.are_digits.ensures ∙ c.if-not-are_digits.false in
+    let pairs : c.in_ok-bytes_of.field-0.items ≡ map pair_value (first_chunks 2 n c.args.word.now) = c.in_ok-bytes_of.ensures ∙ ap (map pair_value) c.as_chunks.ensures.front in
+    sym (hex-pairs n c.args.word.now even digits) ∙ ap hex (sym pairs)
 
-pub loop-rest-preserved : goal.loop-rest-preserved
-loop-rest-preserved c =
-    let l = c.loop-rest in
-    let byte = c.in-Some.ensures.found in
-    record {
-      read = rw c.in_ok-push.ensures.items (read_more l.bytes.items l.rest.now c.args.word.now (length l.rest.now - 2) c.in-Some.byte l.invariant.read c.in-len2-up.len_at_least refl byte.0 byte.1);
-      fit = rw c.in_ok-push.ensures.items (All-push (λ b. b < 256) l.bytes.items c.in-Some.byte l.invariant.fit (search rules));
-    }
-
-pub returns-else-is_empty-clause-none : goal.returns-else-is_empty-clause-none
-returns-else-is_empty-clause-none c = λ bs fit is.
-    let l = c.loop-rest in
-    let some = c.is_empty.ensures in
-    let not_empty : length l.rest.now ≢ 0 = eqb-false (length l.rest.now) 0 (sym some ∙ c.if-is_empty.false) in
-    let one : length l.rest.now ≡ 1 = omega arith in
-    single_left l.bytes.items l.rest.now c.args.word.now bs l.invariant.read one fit is
+pub returns-clause-fit : goal.returns-clause-fit
+returns-clause-fit c = subst (All (λ b. b < 256)) (sym c.in_ok-bytes_of.ensures) (pairs_fit c.as_chunks.result.0.now)

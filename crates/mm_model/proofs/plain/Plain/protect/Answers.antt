@@ -17,7 +17,7 @@ use Rattle.page_map.specs.Tables.{Tables, changed_tables}
 use Rattle.page_map.specs.Step.{step}
 use Rattle.page_map.proofs.Least.{least_passes}
 use Rattle.plain_spaces.proofs.Moves.{put_back}
-use Rattle.plain_spaces.specs.Fronts.{AreFull}
+use Rattle.plain_counts.specs.Fronts.{AreFull}
 use Rattle.plain_spaces.specs.Reach.{Follows}
 use Rattle.plain_spaces.proofs.Followed.{protected_stay, protected_slots_stay}
 use Rattle.mm_model.specs.Plain.{IsSound}

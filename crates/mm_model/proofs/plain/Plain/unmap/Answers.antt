@@ -12,7 +12,7 @@ use Rattle.page_map.specs.Mapping.{after_op}
 use Rattle.page_map.specs.State.{State, linked}
 use Rattle.page_map.specs.Tables.{changed_tables}
 use Rattle.page_map.specs.Step.{step}
-use Rattle.plain_spaces.specs.Fronts.{AreFull}
+use Rattle.plain_counts.specs.Fronts.{AreFull}
 use Rattle.mm_model.specs.Plain.{IsSound}
 use Rattle.mm_model.proofs.AccessCalls.{frames_here, slots_here}
 use Rattle.mm_model.proofs.AccessSteps.{no_need}

@@ -5,7 +5,7 @@ use Rattle.std.specs.FinMap as map
 use Rattle.page_map.specs.Access.{first_page}
 use Rattle.page_map.specs.Change.{change}
 use Rattle.page_map.specs.Takes.{grant, granted}
-use Rattle.plain_spaces.specs.Owners.{unused_of}
+use Rattle.plain_counts.specs.Owners.{unused_of}
 use Rattle.plain_spaces.specs.Reach.{last_page, given, wanting}
 use Rattle.plain_spaces.specs.Wants.{is_wanting, Suits}
 use Rattle.plain_spaces.proofs.Plans.{count_wanting, wanting_is}

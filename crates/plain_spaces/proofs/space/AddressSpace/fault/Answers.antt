@@ -1,7 +1,7 @@
 use Rattle.std.proofs.Common.{◌≡◌, [], ap, ◌∙◌}
 use Rattle.std.specs.Prelude.{slice_index}
 use Rattle.page_map.specs.Takes.{Grant, grant}
-use Rattle.plain_spaces.specs.Owners.{unused_of}
+use Rattle.plain_counts.specs.Owners.{unused_of}
 use Rattle.plain_spaces.specs.Reach.{brought, wanting}
 use Rattle.plain_spaces.proofs.Made.{brought_after}
 use Rattle.plain_spaces.proofs.space.AddressSpace.fault.Goals as goal

@@ -4,8 +4,8 @@ use Rattle.std.specs.Prelude.{IsSome}
 use Rattle.std.specs.FinMap as map
 use Rattle.std.proofs.lemmas.Bool.{cases_lt}
 use Rattle.page_map.specs.Mapping.{arena_first}
-use Rattle.plain_spaces.specs.Fronts.{IsFull}
-use Rattle.plain_spaces.proofs.Gaps.{HasBetween, Ascends, has_range, ascends_range, next_from, next_below, next_there, none_before, has_after, rest_ascends, none_left}
+use Rattle.plain_counts.specs.Fronts.{IsFull}
+use Rattle.plain_counts.proofs.Gaps.{HasBetween, Ascends, has_range, ascends_range, next_from, next_below, next_there, none_before, has_after, rest_ascends, none_left}
 use Rattle.plain_spaces.proofs.space.AddressSpace.full_pages.Goals as goal
 
 pub loop-page-init : goal.loop-page-init

@@ -1,6 +1,6 @@
 use Rattle.std.proofs.Common.{◌-◌, ◌≤◌}
-use Rattle.plain_spaces.specs.Fronts.{IsFull}
-use Rattle.plain_spaces.proofs.Gaps.{Ascends, HasBetween}
+use Rattle.plain_counts.specs.Fronts.{IsFull}
+use Rattle.plain_counts.proofs.Gaps.{Ascends, HasBetween}
 use Rattle.plain_spaces.proofs.space.AddressSpace.full_pages.Given as goal
 
 -- the keys from `next` on are left, and the pages before it have cells

@@ -1,8 +1,8 @@
 use Rattle.std.proofs.Common.{◌+◌, ◌*◌, refl, ap, sym, subst, ◌∙◌, arith}
 use Rattle.std.specs.Prelude.{IsSome}
 use Rattle.page_map.specs.Mapping.{gap}
-use Rattle.plain_spaces.proofs.Gaps.{HasBetween, Ascends, has_range, ascends_range, next_from, next_below, next_there, none_before, has_after, rest_ascends, end_from, none_left, gap_is, no_gap, skips}
-use Rattle.plain_spaces.proofs.Free.{taken_range}
+use Rattle.plain_counts.proofs.Gaps.{HasBetween, Ascends, has_range, ascends_range, next_from, next_below, next_there, none_before, has_after, rest_ascends, end_from, none_left, gap_is, no_gap, skips}
+use Rattle.plain_counts.proofs.Free.{taken_range}
 use Rattle.plain_spaces.proofs.space.AddressSpace.gap.Goals as goal
 
 pub loop-page-init : goal.loop-page-init

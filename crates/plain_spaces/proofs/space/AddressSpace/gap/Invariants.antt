@@ -1,6 +1,6 @@
 use Rattle.std.proofs.Common.{◌≡◌, ℕ, ◌≤◌, ◌<◌, false}
 use Rattle.page_map.specs.Mapping.{is_free}
-use Rattle.plain_spaces.proofs.Gaps.{Ascends, HasBetween}
+use Rattle.plain_counts.proofs.Gaps.{Ascends, HasBetween}
 use Rattle.plain_spaces.proofs.space.AddressSpace.gap.Given as goal
 
 -- the keys from `start` on are left, and no start before it will do

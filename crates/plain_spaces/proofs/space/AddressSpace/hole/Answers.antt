@@ -3,7 +3,7 @@ use mathlib.Core.Logic.{inl, inr}
 use Rattle.std.specs.Prelude.{IsSome}
 use Rattle.std.specs.FinMap as map
 use Rattle.std.proofs.lemmas.Bool.{cases_lt}
-use Rattle.plain_spaces.proofs.Gaps.{HasBetween, Ascends, has_range, ascends_range, next_from, next_below, next_there, none_before, has_after, rest_ascends, none_left}
+use Rattle.plain_counts.proofs.Gaps.{HasBetween, Ascends, has_range, ascends_range, next_from, next_below, next_there, none_before, has_after, rest_ascends, none_left}
 use Rattle.plain_spaces.proofs.Nexts.{is_hole, is_no_hole}
 use Rattle.plain_spaces.proofs.space.AddressSpace.hole.Goals as goal
 

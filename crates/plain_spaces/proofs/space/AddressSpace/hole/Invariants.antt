@@ -1,7 +1,7 @@
 use Rattle.std.proofs.Common.{ℕ, ◌≤◌, ◌<◌}
 use Rattle.std.specs.Prelude.{IsSome}
 use Rattle.std.specs.FinMap as map
-use Rattle.plain_spaces.proofs.Gaps.{Ascends, HasBetween}
+use Rattle.plain_counts.proofs.Gaps.{Ascends, HasBetween}
 use Rattle.plain_spaces.proofs.space.AddressSpace.hole.Given as goal
 
 -- the keys from `next` on are left, and the pages before it have cells

@@ -4,7 +4,7 @@ use Rattle.std.specs.FinMap as map
 use Rattle.corten_base.specs.declared.calls.Reply.TheVariants.{Bytes}
 use Rattle.page_map.specs.Access.{first_page, loaded}
 use Rattle.page_map.specs.Takes.{Grant, grant}
-use Rattle.plain_spaces.specs.Owners.{unused_of}
+use Rattle.plain_counts.specs.Owners.{unused_of}
 use Rattle.plain_spaces.specs.Reach.{last_page, brought, wanting, IsResident}
 use Rattle.plain_spaces.proofs.Brought.{wanted_there, last_there}
 use Rattle.plain_spaces.proofs.Made.{brought_resident, loaded_brought, brought_after}

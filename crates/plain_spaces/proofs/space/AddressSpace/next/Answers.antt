@@ -1,6 +1,6 @@
 use Rattle.std.proofs.Common.{◌≡◌, ◌-◌, Some, sym, subst, refl, arith}
 use Rattle.std.specs.Prelude.{IsSome}
-use Rattle.plain_spaces.proofs.Gaps.{HasBetween, Ascends, has_range, ascends_range, next_from, next_below, next_there, none_before, none_left}
+use Rattle.plain_counts.proofs.Gaps.{HasBetween, Ascends, has_range, ascends_range, next_from, next_below, next_there, none_before, none_left}
 use Rattle.plain_spaces.proofs.Nexts.{is_next, is_no_next}
 use Rattle.plain_spaces.proofs.space.AddressSpace.next.Goals as goal
 use Rattle.plain_spaces.proofs.space.AddressSpace.next.Goals.{After-next}

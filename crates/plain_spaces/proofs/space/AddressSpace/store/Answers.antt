@@ -5,7 +5,7 @@ use Rattle.page_map.specs.Change.{change}
 use Rattle.page_map.specs.Cell.{frame_of, slot_of}
 use Rattle.page_map.specs.Access.{first_page, page_count}
 use Rattle.page_map.specs.Takes.{Grant, grant}
-use Rattle.plain_spaces.specs.Owners.{unused_of}
+use Rattle.plain_counts.specs.Owners.{unused_of}
 use Rattle.plain_spaces.specs.Reach.{brought, wanting, refused_in, stored_at, storing, Follows}
 use Rattle.plain_spaces.proofs.Made.{stored_after, frames_stored, slots_stored}
 use Rattle.plain_spaces.proofs.space.AddressSpace.store.Goals as goal

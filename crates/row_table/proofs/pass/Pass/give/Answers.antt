@@ -1,4 +1,4 @@
-use Rattle.std.proofs.Common.{◌≡◌, rules, arith, ℕ, List, [], ◌∷◌, drop, sym, ap, ◌∙◌, subst, None}
+use Rattle.std.proofs.Common.{◌≡◌, ◌<◌, rules, arith, ℕ, List, [], ◌∷◌, drop, sym, ap, ◌∙◌, subst, None}
 use Rattle.atomic_table.specs.Table.{rest}
 use Rattle.walk_core.specs.Lists.{times}
 use Rattle.walk_core.specs.Words.{book_at}
@@ -9,6 +9,7 @@ use Rattle.row_table.specs.Stack.{outs, carried}
 use Rattle.row_table.specs.Books.{gave, MayGive}
 use Rattle.row_table.proofs.Turns.{gives_at}
 use Rattle.row_table.proofs.Told.{Kept, kept_by, one_of, view_of, front_of, put_in, carried_book, carries_no_book}
+use Rattle.row_table.proofs.Sizes.{sized_gave}
 use Rattle.row_table.proofs.pass.Pass.give.Goals as goal
 
 pub bring-requires-clause-there : goal.bring-requires-clause-there
@@ -17,14 +18,14 @@ bring-requires-clause-there g c = let p = c.args.self.now in carried_book p.rows
 pub put_book-requires-clause-front : goal.put_book-requires-clause-front
 put_book-requires-clause-front g c κs within =
     let p = c.args.self.now in let rows : ℕ = c.args.iron.now.layout.rows in let more : List ℕ = c.bring.ensures.front.0 in
-    let slots = sym p.slots ∙ (ap (λ (x : _). x.slots) c.requires.table ∙ c.args.iron.now.sized.1) in let same_rows : p.rows ≡ rows = omega arith in
+    let slots = sym p.sized.slots ∙ (ap (λ (x : _). x.slots) c.requires.table ∙ c.args.iron.now.sized.1) in let same_rows : p.rows ≡ rows = omega arith in
     let front : c.bring.new.seat.me.1 ≡ (rows, None) ∷ outs more = c.bring.ensures.stacked ∙ (ap outs c.bring.ensures.front.1 ∙ ap (λ (r : ℕ). (r, None) ∷ outs more) same_rows) in
     front ∙ ap (λ (l : List (ℕ × Slot g.row.P-Row.Denot g.row.P-Book.Denot)). (rows, None) ∷ rest l) (sym front)
 
 pub store-requires : goal.store-requires
 store-requires g c =
     let p = c.args.self.now in let rows : ℕ = c.args.iron.now.layout.rows in let more : List ℕ = c.bring.ensures.front.0 in
-    let slots = sym p.slots ∙ (ap (λ (x : _). x.slots) c.requires.table ∙ c.args.iron.now.sized.1) in let same_rows : p.rows ≡ rows = omega arith in
+    let slots = sym p.sized.slots ∙ (ap (λ (x : _). x.slots) c.requires.table ∙ c.args.iron.now.sized.1) in let same_rows : p.rows ≡ rows = omega arith in
     let front : c.bring.new.seat.me.1 ≡ (rows, None) ∷ outs more = c.bring.ensures.stacked ∙ (ap outs c.bring.ensures.front.1 ∙ ap (λ (r : ℕ). (r, None) ∷ outs more) same_rows) in
     let is = put_in p.number p.seat.me c.bring.new.seat.me c.put_book.new.seat.me _ _ _ p.one c.bring.ensures.same.0 front c.put_book.ensures.seat in
     let sees : view c.put_book.new.seat.me ≡ view p.seat.me = view_of _ _ _ is in let may = c.requires.may in (
@@ -41,7 +42,7 @@ store-requires g c =
 pub invariant_of-self : goal.invariant_of-self
 invariant_of-self g c =
     let p = c.args.self.now in let rows : ℕ = c.args.iron.now.layout.rows in let more : List ℕ = c.bring.ensures.front.0 in
-    let slots = sym p.slots ∙ (ap (λ (x : _). x.slots) c.requires.table ∙ c.args.iron.now.sized.1) in let same_rows : p.rows ≡ rows = omega arith in
+    let slots = sym p.sized.slots ∙ (ap (λ (x : _). x.slots) c.requires.table ∙ c.args.iron.now.sized.1) in let same_rows : p.rows ≡ rows = omega arith in
     let front : c.bring.new.seat.me.1 ≡ (rows, None) ∷ outs more = c.bring.ensures.stacked ∙ (ap outs c.bring.ensures.front.1 ∙ ap (λ (r : ℕ). (r, None) ∷ outs more) same_rows) in
     let is = put_in p.number p.seat.me c.bring.new.seat.me c.put_book.new.seat.me _ _ _ p.one c.bring.ensures.same.0 front c.put_book.ensures.seat in
     let sees : view c.put_book.new.seat.me ≡ view p.seat.me = view_of _ _ _ is in let may = c.requires.may in
@@ -50,12 +51,13 @@ invariant_of-self g c =
     let now = t.1 ∙ ap (λ (y : Seat g.row.P-Row.Denot g.row.P-Book.Denot g.row.P-Entry.Denot). (gave g.P.Plan.meaning (view y) may.old c.args.book t.0.generation ∷ [], rest y.1)) is in
     let left : c.pop_front.new.self.items ≡ more = c.pop_front.ensures.rest ∙ ap (drop 1) c.bring.ensures.front.1 in
     let same : SameRows (p.rows ∷ more) (carried p.rows (view p.seat.me).core.held (view p.seat.me).core.has_book) = λ r. ap (times r) (sym c.bring.ensures.front.1) ∙ (c.bring.ensures.rows r ∙ p.carries r) in
-    let k : Kept p.number p.rows c.store.new.seat.me c.pop_front.new.self.items = subst (Kept p.number p.rows c.store.new.seat.me) (sym left)
-    (kept_by p.number p.rows c.store.new.seat.me more w now p.one.1
+    let k : Kept p.number p.rows c.store.new.seat.table_id c.store.new.seat.me c.pop_front.new.self.items = subst (Kept p.number p.rows c.store.new.seat.table_id c.store.new.seat.me) (sym left)
+    (kept_by p.number p.rows p.seat.table_id c.store.new.seat.table_id c.store.new.seat.me more w (c.store.ensures.0 ∙ (c.put_book.ensures.table ∙ c.bring.ensures.same.1)) now p.one.1 (sized_gave p.sized g.P.Plan.meaning may.old c.args.book t.0.generation
+    (λ r i. subst (λ (v : PassView g.row.P-Row.Denot g.row.P-Book.Denot g.row.P-Entry.Denot). r < v.layout.rows) sees (t.0.there r i)))
     (carries_no_book p.rows (view p.seat.me).core.held more (view p.seat.me).core.has_book c.requires.has same) p.held) in
     record {
       one = k.one;
-      slots = ap (λ (x : _). x.slots) (c.store.ensures.0 ∙ (c.put_book.ensures.table ∙ c.bring.ensures.same.1)) ∙ p.slots;
+      sized = k.sized;
       stacked = k.stacked;
       carries = k.carries;
       held = k.held;
@@ -66,7 +68,7 @@ invariant_of-self g c =
 pub returns-clause-gives : goal.returns-clause-gives
 returns-clause-gives g c =
     let p = c.args.self.now in let rows : ℕ = c.args.iron.now.layout.rows in let more : List ℕ = c.bring.ensures.front.0 in
-    let slots = sym p.slots ∙ (ap (λ (x : _). x.slots) c.requires.table ∙ c.args.iron.now.sized.1) in let same_rows : p.rows ≡ rows = omega arith in
+    let slots = sym p.sized.slots ∙ (ap (λ (x : _). x.slots) c.requires.table ∙ c.args.iron.now.sized.1) in let same_rows : p.rows ≡ rows = omega arith in
     let front : c.bring.new.seat.me.1 ≡ (rows, None) ∷ outs more = c.bring.ensures.stacked ∙ (ap outs c.bring.ensures.front.1 ∙ ap (λ (r : ℕ). (r, None) ∷ outs more) same_rows) in
     let is = put_in p.number p.seat.me c.bring.new.seat.me c.put_book.new.seat.me _ _ _ p.one c.bring.ensures.same.0 front c.put_book.ensures.seat in
     let sees : view c.put_book.new.seat.me ≡ view p.seat.me = view_of _ _ _ is in let may = c.requires.may in
@@ -74,6 +76,6 @@ returns-clause-gives g c =
     record {
       old = may.old;
       found = may.found;
-      grants = t.0;
+      grants = record { generation = t.0.generation; low = t.0.low; there = λ r i. subst (λ (v : PassView g.row.P-Row.Denot g.row.P-Book.Denot g.row.P-Entry.Denot). r < v.layout.rows) sees (t.0.there r i) };
       after = view_of _ _ _ t.1 ∙ ap (λ (v : PassView g.row.P-Row.Denot g.row.P-Book.Denot g.row.P-Entry.Denot). gave g.P.Plan.meaning v may.old c.args.book t.0.generation) sees;
     }

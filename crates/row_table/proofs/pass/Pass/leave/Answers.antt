@@ -6,23 +6,24 @@ use Rattle.row_table.specs.Rule.{view}
 use Rattle.row_table.specs.Crossings.{left}
 use Rattle.row_table.proofs.Crossings.{leaves_at}
 use Rattle.row_table.proofs.Told.{Kept, kept_by, view_of}
+use Rattle.row_table.proofs.Sizes.{same_sizes, sized_leave}
 use Rattle.row_table.proofs.pass.Pass.leave.Goals as goal
 
 pub fetch_add-requires : goal.fetch_add-requires
 fetch_add-requires g c = (
   search rules,
-  let wide = c.args.iron.now.sized.0 in let at = c.epoch-word.ensures in let less = c.requires.number in omega arith,
+  let wide = c.args.iron.now.sized.0 in let at = c.epoch-word.ensures in let less = (same_sizes c.args.self.now.sized _ c.args.iron.now.layout c.requires.table c.args.iron.now.sized.0 c.args.iron.now.sized.1).1 in omega arith,
   leaves_at g.P.Plan.meaning _ _ _ _ _ c.args.self.now.number _ (c.epoch-word.ensures ∙ ap (λ (y : Layout). epoch_at y.rows c.args.self.now.number) (sym c.args.iron.now.sized.2)) c.args.self.now.one c.requires.inside,
 )
 
 pub invariant_of-self : goal.invariant_of-self
 invariant_of-self g c =
     let p = c.args.self.now in let w : PassView g.row.P-Row.Denot g.row.P-Book.Denot g.row.P-Entry.Denot = left (view p.seat.me) in
-    let k : Kept p.number p.rows c.fetch_add.new.seat.me p.stack.items = kept_by p.number p.rows c.fetch_add.new.seat.me p.stack.items w
-    (c.fetch_add.ensures.2.1 ∙ ap (λ (cs : _). (w ∷ [], cs)) p.stacked) p.one.1 p.carries p.held in
+    let k : Kept p.number p.rows c.fetch_add.new.seat.table_id c.fetch_add.new.seat.me p.stack.items = kept_by p.number p.rows p.seat.table_id c.fetch_add.new.seat.table_id c.fetch_add.new.seat.me p.stack.items w c.fetch_add.ensures.0
+    (c.fetch_add.ensures.2.1 ∙ ap (λ (cs : _). (w ∷ [], cs)) p.stacked) p.one.1 (sized_leave p.sized) p.carries p.held in
     record {
       one = k.one;
-      slots = ap (λ (x : _). x.slots) c.fetch_add.ensures.0 ∙ p.slots;
+      sized = k.sized;
       stacked = k.stacked;
       carries = k.carries;
       held = k.held;

@@ -7,6 +7,7 @@ use Rattle.row_table.specs.Rule.{view}
 use Rattle.row_table.specs.Books.{turned, waited, Learns}
 use Rattle.row_table.proofs.Turns.{turns_at}
 use Rattle.row_table.proofs.Told.{Kept, kept_by, view_of, front_of, swapped, book_came_out, room_left, no_book, carries_book}
+use Rattle.row_table.proofs.Sizes.{sized_turned, sized_waited}
 use Rattle.row_table.proofs.pass.Pass.turn.Goals as goal
 
 pub compare_exchange-found-requires : goal.compare_exchange-found-requires
@@ -33,17 +34,17 @@ pub invariant_of-self : goal.invariant_of-self
 invariant_of-self g c =
     let p = c.args.self.now in let rows : ℕ = c.args.iron.now.layout.rows in
     let t = (c.compare_exchange-found.ensures.2 rows c.args.iron.now.sized.1).0 c.if-found-eq0.true in
-    let slots = sym p.slots ∙ (ap (λ (x : _). x.slots) c.requires.table ∙ c.args.iron.now.sized.1) in let same_rows : rows ≡ p.rows = omega arith in
+    let slots = sym p.sized.slots ∙ (ap (λ (x : _). x.slots) c.requires.table ∙ c.args.iron.now.sized.1) in let same_rows : rows ≡ p.rows = omega arith in
     let w : PassView g.row.P-Row.Denot g.row.P-Book.Denot g.row.P-Entry.Denot = turned g.P.Plan.meaning (view p.seat.me) t.0 in
     let items : List ℕ = p.rows ∷ p.stack.items in
     let pushed : c.push_front_reserved.new.self.items ≡ items = c.push_front_reserved.ensures.items in
-    let k : Kept p.number p.rows c.take_book.new.seat.me c.push_front_reserved.new.self.items = subst (Kept p.number p.rows c.take_book.new.seat.me) (sym pushed)
-    (kept_by p.number p.rows c.take_book.new.seat.me items w
+    let k : Kept p.number p.rows c.take_book.new.seat.table_id c.take_book.new.seat.me c.push_front_reserved.new.self.items = subst (Kept p.number p.rows c.take_book.new.seat.table_id c.take_book.new.seat.me) (sym pushed)
+    (kept_by p.number p.rows p.seat.table_id c.take_book.new.seat.table_id c.take_book.new.seat.me items w (c.take_book.ensures.table ∙ c.compare_exchange-found.ensures.0)
     (swapped _ _ _ _ _ _ t.2 c.take_book.ensures.seat ∙ (λ i. (w ∷ [], (same_rows i, None) ∷ p.stacked i)))
-    p.one.1 (carries_book p.rows (view p.seat.me).core.held p.stack.items (view p.seat.me).core.has_book c.requires.free p.carries) p.held) in
+    p.one.1 (sized_turned p.sized g.P.Plan.meaning t.0) (carries_book p.rows (view p.seat.me).core.held p.stack.items (view p.seat.me).core.has_book c.requires.free p.carries) p.held) in
     record {
       one = k.one;
-      slots = ap (λ (x : _). x.slots) (c.take_book.ensures.table ∙ c.compare_exchange-found.ensures.0) ∙ p.slots;
+      sized = k.sized;
       stacked = k.stacked;
       carries = k.carries;
       held = k.held;
@@ -62,11 +63,11 @@ pub invariant_of-self-else-found-eq0 : goal.invariant_of-self-else-found-eq0
 invariant_of-self-else-found-eq0 g c =
     let p = c.args.self.now in let t = (c.compare_exchange-found.ensures.2 c.args.iron.now.layout.rows c.args.iron.now.sized.1).1 c.if-found-eq0.false in
     let w : PassView g.row.P-Row.Denot g.row.P-Book.Denot g.row.P-Entry.Denot = waited (view p.seat.me) c.compare_exchange-found.result in
-    let k : Kept p.number p.rows c.compare_exchange-found.new.seat.me p.stack.items = kept_by p.number p.rows c.compare_exchange-found.new.seat.me p.stack.items w
-    (t.1 ∙ ap (λ (cs : _). (w ∷ [], cs)) p.stacked) p.one.1 p.carries p.held in
+    let k : Kept p.number p.rows c.compare_exchange-found.new.seat.table_id c.compare_exchange-found.new.seat.me p.stack.items = kept_by p.number p.rows p.seat.table_id c.compare_exchange-found.new.seat.table_id c.compare_exchange-found.new.seat.me p.stack.items w c.compare_exchange-found.ensures.0
+    (t.1 ∙ ap (λ (cs : _). (w ∷ [], cs)) p.stacked) p.one.1 (sized_waited p.sized c.compare_exchange-found.result) p.carries p.held in
     record {
       one = k.one;
-      slots = ap (λ (x : _). x.slots) c.compare_exchange-found.ensures.0 ∙ p.slots;
+      sized = k.sized;
       stacked = k.stacked;
       carries = k.carries;
       held = k.held;

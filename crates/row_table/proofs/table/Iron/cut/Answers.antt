@@ -6,6 +6,7 @@ use Rattle.row_table.specs.Stack.{carried}
 use Rattle.row_table.specs.Start.{first_pass}
 use Rattle.row_table.proofs.Start.{cuts}
 use Rattle.row_table.proofs.Told.{Kept, kept_by}
+use Rattle.row_table.proofs.Sizes.{sized_new}
 use Rattle.row_table.proofs.table.Iron.cut.Goals as goal
 
 pub split_seat-requires : goal.split_seat-requires
@@ -13,14 +14,16 @@ split_seat-requires g c = (search rules, let wide = c.args.self.now.sized.0 in o
 
 pub invariant_of-result : goal.invariant_of-result
 invariant_of-result g c =
-    let w : PassView g.row.P-Row.Denot g.row.P-Book.Denot g.row.P-Entry.Denot = unmoved (Some c.args.self.now.table.shared.key.origin.value) c.args.number in
+    let w : PassView g.row.P-Row.Denot g.row.P-Book.Denot g.row.P-Entry.Denot = unmoved c.args.self.now.layout (Some c.args.self.now.table.shared.key.origin.value) c.args.number in
     let is : c.split_seat.result.me ≡ (w ∷ [], []) = c.split_seat.ensures.4 ∙ ap (λ (y : Seat g.row.P-Row.Denot g.row.P-Book.Denot g.row.P-Entry.Denot). (first_pass y.0, [])) c.requires.first.1 in
+    let at = c.split_seat.ensures.3 ∙ c.requires.table in
     let none : SameRows [] (carried c.args.self.now.layout.rows [] false) = λ r. refl in
-    let k : Kept c.args.number c.args.self.now.layout.rows c.split_seat.result.me c.args.stack.items = subst (Kept c.args.number c.args.self.now.layout.rows c.split_seat.result.me) (sym c.requires.stack.0)
-    (kept_by c.args.number c.args.self.now.layout.rows c.split_seat.result.me [] w is refl none (λ r. let n = times-nil r in (omega arith, λ _. n))) in
+    let k : Kept c.args.number c.args.self.now.layout.rows c.split_seat.result.table_id c.split_seat.result.me c.args.stack.items = subst (Kept c.args.number c.args.self.now.layout.rows c.split_seat.result.table_id c.split_seat.result.me) (sym c.requires.stack.0)
+    (kept_by c.args.number c.args.self.now.layout.rows c.split_seat.result.table_id c.split_seat.result.table_id c.split_seat.result.me [] w refl is refl
+    (sized_new c.args.number c.args.self.now.layout.rows c.split_seat.result.table_id c.args.self.now.layout (Some c.args.self.now.table.shared.key.origin.value) (ap (λ (x : _). x.slots) at ∙ c.args.self.now.sized.1) (ap (λ (x : _). x.words) at ∙ c.args.self.now.sized.0) refl c.requires.number) none (λ r. let n = times-nil r in (omega arith, λ _. n))) in
     record {
       one = k.one;
-      slots = ap (λ (x : _). x.slots) (c.split_seat.ensures.3 ∙ c.requires.table) ∙ c.args.self.now.sized.1;
+      sized = k.sized;
       stacked = k.stacked;
       carries = k.carries;
       held = k.held;

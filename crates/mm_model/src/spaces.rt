@@ -1,0 +1,136 @@
+//! Making spaces and removing them.
+ghost use Rattle.std.specs.Prelude.{◌≡◌, ℕ, ◌+◌, ◌≤◌, IfOk, OnOk, OnErr};
+ghost use Rattle.std.specs.FinMap as map;
+ghost use Rattle.corten_base.specs.declared.calls.Call.TheVariants as call;
+ghost use Rattle.page_map.specs.Cell.{frame_of, slot_of};
+ghost use Rattle.page_map.specs.State.{linked};
+ghost use Rattle.page_map.specs.Step.{step};
+ghost use Rattle.plain_spaces.specs.Copies.{AreLow, IsRoomy, JoinsAll};
+ghost use Rattle.plain_spaces.specs.Reach.{IsCounted};
+ghost use Rattle.mm_model.specs.NewSpaces.{MayMake, made};
+
+use crate::plain::Plain;
+use corten_base::{Reply, SpaceId};
+use plain_counts::Owners;
+use plain_spaces::{AddressSpace, Spaces};
+use std::alloc::{AllocError, Global};
+
+/// How many pages stand before the end of the user pages.
+const ALL_PAGES: u64 = 1 << 35;
+
+/// Puts in a space, whose pages are further keys of the numbers that they carry.
+fn put_in(
+    spaces: &mut Spaces,
+    frames: &mut Owners,
+    slots: &mut Owners,
+    new: u8,
+    cells: AddressSpace,
+) -> Result<(), AllocError>
+    requires low { AreLow cells }
+    requires frames { IsCounted frame_of frames.old cells }
+    requires slots { IsCounted slot_of slots.old cells }
+    requires room_for_frames { IsRoomy frame_of frames.old cells }
+    requires room_for_slots { IsRoomy slot_of slots.old cells }
+    ensures spaces { OnOk result (spaces.new ≡ map.insert spaces.old new cells) }
+    ensures frames { OnOk result (JoinsAll frame_of frames.old frames.new cells) }
+    ensures slots { OnOk result (JoinsAll slot_of slots.old slots.new cells) }
+    ensures spaces_stay { OnErr result (spaces.new ≡ spaces.old) }
+    ensures frames_stay { OnErr result (frames.new ≡ frames.old) }
+    ensures slots_stay { OnErr result (slots.new ≡ slots.old) }
+{
+    spaces.insert(new, cells)?;
+    let cells = spaces.get(new).unwrap();
+    cells.share(frames, slots);
+    Ok(())
+}
+
+impl Plain {
+    /// Makes a space that is absent, with these cells, unless there are too few page tables for it.
+    fn make(
+        &mut self,
+        alloc: Global,
+        new: u8,
+        cells: AddressSpace,
+        limbo: u32,
+    ) -> Result<Reply, AllocError>
+        requires may { MayMake self.old new cells limbo }
+        requires legal { linked self.old + limbo ≤ self.old.limits.tables }
+        ensures ok { IfOk result (λ reply. (reply, self.new) ≡ made self.old new cells limbo) }
+        ensures err { OnErr result (self.new ≡ self.old) }
+    {
+        let linked = self.tables.len() as u32;
+        cells.add_tables(alloc, &mut self.tables, new)?;
+        let need = self.tables.len() as u64 - u64::from(linked);
+        if need > u64::from(self.limits.tables - linked - limbo) {
+            self.tables.remove_space(new);
+            return Ok(Reply::NoTables {
+                linked,
+                limbo,
+                need,
+            });
+        }
+        match put_in(
+            &mut self.spaces,
+            &mut self.frames,
+            &mut self.slots,
+            new,
+            cells,
+        ) {
+            Ok(()) => Ok(Reply::Space(new)),
+            Err(wanting) => {
+                self.tables.remove_space(new);
+                Err(wanting)
+            }
+        }
+    }
+
+    /// Makes the least absent space, without pages.
+    pub(crate) fn spawn(&mut self, alloc: Global, limbo: u32) -> Result<Reply, AllocError>
+        requires { linked self.old + limbo ≤ self.old.limits.tables }
+        ensures ok { IfOk result (λ reply. (thread : ℕ) → (reply, self.new) ≡ step self.old thread call.Spawn limbo) }
+        ensures err { OnErr result (self.new ≡ self.old) }
+    {
+        let spaces = &self.spaces;
+        let Some(new) = spaces.least_absent() else {
+            return Ok(Reply::NoSpaces);
+        };
+        self.make(alloc, new, AddressSpace::new(alloc), limbo)
+    }
+
+    /// Makes the least absent space, as a copy of another, in the time of the pages that are there.
+    pub(crate) fn fork(
+        &mut self,
+        alloc: Global,
+        space: SpaceId,
+        limbo: u32,
+    ) -> Result<Reply, AllocError>
+        requires { linked self.old + limbo ≤ self.old.limits.tables }
+        ensures ok { IfOk result (λ reply. (thread : ℕ) → (reply, self.new) ≡ step self.old thread (call.Fork space) limbo) }
+        ensures err { OnErr result (self.new ≡ self.old) }
+    {
+        let spaces = &self.spaces;
+        let Some(parent) = spaces.get(space.number()) else {
+            return Ok(Reply::NoSpace);
+        };
+        let Some(new) = spaces.least_absent() else {
+            return Ok(Reply::NoSpaces);
+        };
+        let cells = parent.copy(alloc)?;
+        self.make(alloc, new, cells, limbo)
+    }
+
+    /// Removes a space with its page tables, in the time of the pages that are there and of the tables.
+    pub(crate) fn exit(&mut self, space: SpaceId) -> Reply
+        ensures { (thread limbo : ℕ) → linked self.old + limbo ≤ self.old.limits.tables
+            → (result, self.new) ≡ step self.old thread (call.Exit space) limbo }
+    {
+        let number = space.number();
+        let Some(mut cells) = self.spaces.remove(number) else {
+            return Reply::NoSpace;
+        };
+        cells.release(0, ALL_PAGES, &mut self.frames, &mut self.slots);
+        self.tables.remove_space(number);
+        self.fronts.forget(number, 0, ALL_PAGES);
+        Reply::Ok
+    }
+}

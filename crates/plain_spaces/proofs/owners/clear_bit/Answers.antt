@@ -1,9 +1,0 @@
-use Rattle.std.proofs.Common.{◌%◌, arith, w64}
-use Rattle.std.proofs.lemmas.Nat.Bits.{bit_at_clear_same, bit_at_clear_other}
-use Rattle.plain_spaces.proofs.Bits.{bit_of-set}
-use Rattle.plain_spaces.proofs.owners.clear_bit.Goals as goal
-
-pub returns : goal.returns
-returns c = bit_of-set c.args.words.now c.args.number _ 0 (omega arith)
-    (bit_at_clear_same w64 _ (c.args.number % 64) (omega arith))
-    (λ i below apart. bit_at_clear_other w64 _ (c.args.number % 64) (omega arith) i below apart)

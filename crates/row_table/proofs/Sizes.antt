@@ -1,0 +1,153 @@
+-- The sizes that a pass keeps, after each step.
+use Rattle.std.proofs.Common.{◌≡◌, ℕ, ◌+◌, ◌<◌, ◌&&◌, Bool, true, false, cond, eqb, not, List, ◌++◌, map, sym, refl, ap, ◌∙◌, subst, ⊎_elim, arith, Option, Some, None}
+use Rattle.std.specs.List.{Contains}
+use Rattle.std.proofs.lemmas.List.Elements.{Contains-push_cases}
+use Rattle.std.proofs.lemmas.Bool.{and_parts, cases_lt}
+use Rattle.std.proofs.lemmas.List.{map-append}
+use mathlib.Core.Logic.{dite}
+use native.Mathlib.Decide.{ℕ_discrete}
+use Rattle.atomic_table.specs.Seated.{TableId}
+use Rattle.table_place.specs.declared.Place.{Place}
+use Rattle.table_place.specs.Place.{entry_place}
+use Rattle.walk_core.specs.declared.pass.Stand.{Stand}
+use Rattle.walk_core.specs.Words.{is_link, link_row, link_generation}
+use Rattle.walk_core.specs.declared.pass.GrantedRow.{GrantedRow}
+use Rattle.walk_core.specs.Lists.{Has, times}
+use Rattle.walk_core.specs.Core.{granted_rows}
+use Rattle.walk_core.specs.Events.{top, stand_after_look, newly_granted}
+use Rattle.walk_core.proofs.RowLists.{times-nil, times-append}
+use Rattle.walk_core.specs.Guards.{StandsOn}
+use Rattle.row_layout.specs.declared.places.Layout.{Layout}
+use Rattle.row_layout.specs.Places.{word_count}
+use Rattle.row_table.specs.declared.view.PassView.{PassView}
+use Rattle.row_table.specs.declared.view.HeldRow.{HeldRow}
+use Rattle.row_table.specs.Plan.{Meaning}
+use Rattle.row_table.specs.Rule.{levels_of, unmoved}
+use Rattle.row_table.specs.Known.{LinksRow, LinksBelow, IsSized}
+use Rattle.row_table.specs.Moves.{grabbed, looked, got, released, MayGrab}
+use Rattle.row_table.specs.Looks.{looked_at, MayLook}
+use Rattle.row_table.specs.Crossings.{entered, left}
+use Rattle.row_table.specs.Books.{given, taken_rows, turned, waited, gave}
+use Rattle.row_table.specs.Stack.{AreRows}
+use Rattle.row_table.proofs.Views.{kept}
+use Rattle.row_table.proofs.Turns.{same_parts, whole, contained_map}
+
+some_is : {X : Type 0} (x y : X) → Some x ≡ Some y → x ≡ y
+some_is x y e = cc
+
+none_is : {X : Type 0} {F : Type 0} (x : X) → None ≡ Some x → F
+none_is x e = absurd (cc)
+
+-- the rows of the hand after a give
+granted_more : (gs : List GrantedRow) (ts : List ℕ) → map (λ (g : GrantedRow). g.row) (gs ++ map newly_granted ts) ≡ map (λ (g : GrantedRow). g.row) gs ++ ts
+granted_more gs ts = map-append (λ (g : GrantedRow). g.row) gs (map newly_granted ts) ∙ ap (λ (l : List ℕ). map (λ (g : GrantedRow). g.row) gs ++ l) (same_parts newly_granted (λ (g : GrantedRow). g.row) (λ (x : ℕ). x) (λ x. refl) ts ∙ whole ts)
+
+-- where a look leads
+stands_after : (rows levels r i n : ℕ) (t : Option Stand) → ((s : Stand) → t ≡ Some s → s.row < rows) → (is_link n ≡ true → link_row n < rows)
+    → (s : Stand) → stand_after_look levels r i n t ≡ Some s → s.row < rows
+stands_after rows levels r i n None old link s is = none_is s is
+stands_after rows levels r i n (Some x) old link s is = go (eqb x.row r && is_link n) refl is
+  where
+    next : Stand
+    next = record { row = link_row n; place = entry_place levels x.place i; generation = link_generation n }
+
+    go : (b : Bool) → (eqb x.row r && is_link n) ≡ b → cond b (Some (record { row = link_row n; place = entry_place levels x.place i; generation = link_generation n })) (Some x) ≡ Some s → s.row < rows
+    go true e at = let less = link (and_parts (eqb x.row r) (is_link n) e).1 in subst (λ (y : Stand). y.row < rows) (some_is _ _ at) less
+    go false e at = subst (λ (y : Stand). y.row < rows) (some_is _ _ at) (old x refl)
+
+module _ {R B E : Type 0} {n rows : ℕ} {id : TableId} {v : PassView R B E} (old : IsSized n rows id v) where
+  -- which rows are there
+
+  stands_below : (r : ℕ) → StandsOn v.core r → r < rows
+  stands_below r on = let less = old.stand on.0 on.1 in let same = on.2 in omega arith
+
+  pub grab_below : (r : ℕ) → MayGrab v r → r < rows
+  grab_below r may = ⊎_elim (λ (on : StandsOn v.core r). stands_below r on)
+      (λ (l : LinksRow v r). let less = old.links l.linker l.held l.index l.inside l.link in let same = l.to_row in omega arith) may
+
+  pub look_below : AreRows rows v.core.held → (r : ℕ) → MayLook v r → r < rows
+  look_below are r may = ⊎_elim (λ (on : StandsOn v.core r). stands_below r on)
+      (λ (has : Has v.core.held r). ⊎_elim (λ (less : r < rows). less) (λ past. let none = (are r).1 past in absurd (omega arith)) (cases_lt r rows)) may
+
+  -- the sizes are those of the table of this number
+  pub same_sizes : (other : TableId) (k : Layout) → id ≡ other → other.words ≡ word_count k → other.slots ≡ k.rows + 1 → (rows ≡ k.rows) × (n < k.passes)
+  same_sizes other k same words slots = let a = old.slots in let b = old.words in let c = old.rows_are in let d = old.number in
+      let e = ap (λ (x : TableId). x.words) same in let f = ap (λ (x : TableId). x.slots) same in (omega arith, omega arith)
+
+  pub row_there : AreRows rows v.core.held → (other : TableId) (k : Layout) → id ≡ other → other.words ≡ word_count k → other.slots ≡ k.rows + 1 → (r : ℕ) → MayLook v r → r < k.rows
+  row_there are other k same words slots r may = let less = look_below are r may in let all = (same_sizes other k same words slots).0 in omega arith
+
+  pub grab_there : (other : TableId) (k : Layout) → id ≡ other → other.words ≡ word_count k → other.slots ≡ k.rows + 1 → (r : ℕ) → MayGrab v r → r < k.rows
+  grab_there other k same words slots r may = let less = grab_below r may in let all = (same_sizes other k same words slots).0 in omega arith
+
+  pub held_there : AreRows rows v.core.held → (other : TableId) (k : Layout) → id ≡ other → other.words ≡ word_count k → other.slots ≡ k.rows + 1 → (r : ℕ) → Has v.core.held r → r < k.rows
+  held_there are other k same words slots r has = let all = (same_sizes other k same words slots).0 in ⊎_elim (λ (less : r < rows). omega arith) (λ past. let none = (are r).1 past in absurd (omega arith)) (cases_lt r rows)
+
+  -- after each step
+
+  pub sized_enter : 0 < rows → IsSized n rows id (entered v)
+  sized_enter some_rows = record { slots = old.slots; words = old.words; rows_are = old.rows_are; number = old.number; stand = λ s is. subst (λ (y : Stand). y.row < rows) (some_is top s is) some_rows; links = old.links; granted = old.granted }
+
+  pub sized_leave : IsSized n rows id (left v)
+  sized_leave = record { slots = old.slots; words = old.words; rows_are = old.rows_are; number = old.number; stand = λ s is. none_is s is; links = old.links; granted = old.granted }
+
+  pub sized_look : (r i w : ℕ) (place : Place) → (is_link w ≡ true → link_row w < v.layout.rows) → IsSized n rows id (looked_at v r place i w)
+  sized_look r i w place below = record {
+    slots = old.slots;
+    words = old.words;
+    rows_are = old.rows_are;
+    number = old.number;
+    stand = stands_after rows (levels_of v.layout) r i w v.core.stand old.stand (λ link. let less = below link in let same = old.rows_are in omega arith);
+    links = old.links;
+    granted = old.granted;
+  }
+
+  pub sized_miss : (r : ℕ) (place : Place) (w : ℕ) → IsSized n rows id (looked v r place None w)
+  sized_miss r place w = record { slots = old.slots; words = old.words; rows_are = old.rows_are; number = old.number; stand = old.stand; links = old.links; granted = old.granted }
+
+  pub sized_got : (r : ℕ) (place : Place) (words : List ℕ) (x : R) → LinksBelow v.layout.rows words → IsSized n rows id (got v r place words x)
+  sized_got r place words x below = record {
+    slots = old.slots;
+    words = old.words;
+    rows_are = old.rows_are;
+    number = old.number;
+    stand = old.stand;
+    links = λ h i. ⊎_elim (λ (j : Contains v.rows h). old.links h j)
+        (λ (e : grabbed r place words x ≡ h). subst (λ (y : HeldRow R). LinksBelow rows y.words) e (subst (λ (m : ℕ). LinksBelow m words) (sym old.rows_are) below))
+        (Contains-push_cases v.rows (grabbed r place words x) h i);
+    granted = old.granted;
+  }
+
+  pub sized_released : (r : ℕ) → IsSized n rows id (released v r)
+  sized_released r = record {
+    slots = old.slots;
+    words = old.words;
+    rows_are = old.rows_are;
+    number = old.number;
+    stand = old.stand;
+    links = λ h i. old.links h (kept (λ (u : HeldRow R). not (eqb u.row r)) v.rows h i).1;
+    granted = old.granted;
+  }
+
+  pub sized_waited : (w : ℕ) → IsSized n rows id (waited v w)
+  sized_waited w = record { slots = old.slots; words = old.words; rows_are = old.rows_are; number = old.number; stand = old.stand; links = old.links; granted = old.granted }
+
+  module _ (M : Meaning R B E) where
+    pub sized_turned : (book : B) → IsSized n rows id (turned M v book)
+    sized_turned book = record { slots = old.slots; words = old.words; rows_are = old.rows_are; number = old.number; stand = old.stand; links = old.links; granted = old.granted }
+
+    pub sized_gave : (a b : B) (generation : ℕ → ℕ) → ((r : ℕ) → Has (taken_rows M a b) r → r < v.layout.rows) → IsSized n rows id (gave M v a b generation)
+    sized_gave a b generation taken = record {
+      slots = old.slots;
+      words = old.words;
+      rows_are = old.rows_are;
+      number = old.number;
+      stand = old.stand;
+      links = λ h i. let o = contained_map given v.rows h i in subst (λ (y : HeldRow R). LinksBelow rows y.words) o.2 (old.links o.0 o.1);
+      granted = λ r has. let both = ap (times r) (granted_more v.core.granted (taken_rows M a b)) in let all = times-append r (granted_rows v.core) (taken_rows M a b) in dite (ℕ_discrete (times r (granted_rows v.core)) 0)
+          (λ none_before. let less = taken r (omega arith) in let same = old.rows_are in omega arith)
+          (λ before. old.granted r (omega arith));
+    }
+
+pub sized_new : {R B E : Type 0} (n rows : ℕ) (id : TableId) (k : Layout) (origin : Option B) → id.slots ≡ rows + 1 → id.words ≡ word_count k → rows ≡ k.rows → n < k.passes → IsSized n rows id (unmoved {R = R} {B = B} {E = E} k origin n)
+sized_new n rows id k origin slots words same less = record { slots = slots; words = words; rows_are = same; number = less; stand = λ s is. none_is s is; links = λ h i. let z = i.1 in absurd (omega arith); granted = λ r has. let z = times-nil r in absurd (omega arith) }

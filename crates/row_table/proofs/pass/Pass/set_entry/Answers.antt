@@ -1,0 +1,39 @@
+use Rattle.std.proofs.Common.{rules, arith, [], ◌∷◌, sym, ap, ◌∙◌, subst}
+use Rattle.row_table.specs.declared.view.PassView.{PassView}
+use Rattle.row_table.specs.Rule.{view}
+use Rattle.walk_core.specs.Lists.{times}
+use Rattle.row_table.specs.Stack.{carried, AreRows}
+use Rattle.row_table.specs.Links.{entry_set}
+use Rattle.row_table.proofs.Links.{sets_at}
+use Rattle.row_table.proofs.Told.{Kept, kept_by, view_of}
+use Rattle.row_table.proofs.Sizes.{held_there}
+use Rattle.row_table.proofs.Sized.{entry_same, sized_entry}
+use Rattle.row_table.proofs.pass.Pass.set_entry.Goals as goal
+
+pub store-requires : goal.store-requires
+store-requires g c = (
+  search rules,
+  let wide = c.args.iron.now.sized.0 in let at = c.entry-place.ensures in let less = held_there c.args.self.now.sized c.args.self.now.held _ c.args.iron.now.layout c.requires.table c.args.iron.now.sized.0 c.args.iron.now.sized.1 c.args.row c.requires.held in let inside = c.requires.guard.inside in omega arith,
+  sets_at g.P.Plan.meaning _ _ _ _ _ c.args.self.now.number c.args.row c.args.index c.args.word _ c.entry-place.ensures c.args.self.now.one c.requires.guard,
+)
+
+pub invariant_of-self : goal.invariant_of-self
+invariant_of-self g c =
+    let p = c.args.self.now in let may = c.requires.guard in let t = c.store.ensures.2 c.args.row c.args.index may.linker may.inside c.entry-place.ensures may.held may.same_row in
+    let w : PassView g.row.P-Row.Denot g.row.P-Book.Denot g.row.P-Entry.Denot = entry_set (view p.seat.me) may.linker c.args.index c.args.word in
+    let same = entry_same (view p.seat.me) may.linker c.args.index c.args.word in
+    let k : Kept p.number p.rows c.store.new.seat.table_id c.store.new.seat.me p.stack.items = kept_by p.number p.rows p.seat.table_id c.store.new.seat.table_id c.store.new.seat.me p.stack.items w c.store.ensures.0
+    (t.1 ∙ ap (λ (cs : _). (w ∷ [], cs)) p.stacked) (same.0 ∙ p.one.1) (sized_entry p.sized may.linker c.args.index c.args.word t.0)
+    (λ r. p.carries r ∙ (λ j. times r (carried p.rows (sym same.1 j) (sym same.2 j)))) (subst (AreRows p.rows) (sym same.1) p.held) in
+    record {
+      one = k.one;
+      sized = k.sized;
+      stacked = k.stacked;
+      carries = k.carries;
+      held = k.held;
+      few = p.few;
+      room = p.room;
+    }
+
+pub returns-clause-sets : goal.returns-clause-sets
+returns-clause-sets g c linker held same = let t = c.store.ensures.2 c.args.row c.args.index linker c.requires.guard.inside c.entry-place.ensures held same in view_of _ _ _ t.1

@@ -1,0 +1,35 @@
+use Rattle.std.proofs.Common.{rules, arith, [], ◌∷◌, ap, ◌∙◌}
+use Rattle.row_table.specs.declared.view.PassView.{PassView}
+use Rattle.row_table.specs.Rule.{view}
+use Rattle.row_table.specs.Links.{entry_cut}
+use Rattle.row_table.proofs.Links.{cuts_at}
+use Rattle.row_table.proofs.Told.{Kept, kept_by, view_of}
+use Rattle.row_table.proofs.Sizes.{held_there}
+use Rattle.row_table.proofs.Sized.{sized_cut}
+use Rattle.row_table.proofs.pass.Pass.unlink.Goals as goal
+
+pub store-requires : goal.store-requires
+store-requires g c = (
+  search rules,
+  let wide = c.args.iron.now.sized.0 in let at = c.entry-place.ensures in let less = held_there c.args.self.now.sized c.args.self.now.held _ c.args.iron.now.layout c.requires.table c.args.iron.now.sized.0 c.args.iron.now.sized.1 c.args.row c.requires.held in let inside = c.requires.guard.inside in omega arith,
+  cuts_at g.P.Plan.meaning _ _ _ _ _ c.args.self.now.number c.args.row c.args.index _ c.entry-place.ensures c.args.self.now.one c.requires.guard,
+)
+
+pub invariant_of-self : goal.invariant_of-self
+invariant_of-self g c =
+    let p = c.args.self.now in let may = c.requires.guard in let t = c.store.ensures.2 c.args.row c.args.index may.linker may.inside c.entry-place.ensures may.held may.same_row in
+    let w : PassView g.row.P-Row.Denot g.row.P-Book.Denot g.row.P-Entry.Denot = entry_cut (view p.seat.me) may.linker c.args.index in
+    let k : Kept p.number p.rows c.store.new.seat.table_id c.store.new.seat.me p.stack.items = kept_by p.number p.rows p.seat.table_id c.store.new.seat.table_id c.store.new.seat.me p.stack.items w c.store.ensures.0
+    (t ∙ ap (λ (cs : _). (w ∷ [], cs)) p.stacked) p.one.1 (sized_cut p.sized may.linker c.args.index) p.carries p.held in
+    record {
+      one = k.one;
+      sized = k.sized;
+      stacked = k.stacked;
+      carries = k.carries;
+      held = k.held;
+      few = p.few;
+      room = p.room;
+    }
+
+pub returns-clause-unlinks : goal.returns-clause-unlinks
+returns-clause-unlinks g c linker held same = view_of _ _ _ (c.store.ensures.2 c.args.row c.args.index linker c.requires.guard.inside c.entry-place.ensures held same)

@@ -1,0 +1,59 @@
+-- What a pass knows of rows by what it stands on and holds.
+--     LinksRow      a held row has an entry that links the row
+--     IsKnownPlace      where a row is, as far as the pass knows
+--     IsHolder, IsLoose      which pass holds a row, and a row that nobody may take
+--     LinksBelow      the rows that entry words link are there
+--     IsSized      what a pass keeps of the sizes of its table
+use Rattle.std.specs.Prelude.{◌≡◌, ◌≢◌, ℕ, ◌+◌, ◌<◌, ◌⊎◌, true, List, slice_index, Some}
+use Rattle.std.specs.List.{Contains}
+use Rattle.atomic_table.specs.Seated.{TableId}
+use Rattle.table_place.specs.declared.Place.{Place}
+use Rattle.table_place.specs.Place.{entry_place}
+use Rattle.walk_core.specs.declared.pass.Stand.{Stand}
+use Rattle.walk_core.specs.Words.{is_link, link_row}
+use Rattle.walk_core.specs.Lists.{Has}
+use Rattle.walk_core.specs.Core.{granted_rows}
+use Rattle.row_layout.specs.Places.{word_count}
+use Rattle.row_table.specs.declared.view.PassView.{PassView}
+use Rattle.row_table.specs.declared.view.HeldRow.{HeldRow}
+use Rattle.row_table.specs.Rule.{levels_of}
+
+-- where there are so many rows
+abbrev pub LinksBelow : ℕ → List ℕ → Type 0
+LinksBelow rows words = (index : ℕ) → index < 512 → is_link (slice_index words index) ≡ true → link_row (slice_index words index) < rows
+
+module _ {R B E : Type 0} where
+  pub record LinksRow (v : PassView R B E) (row : ℕ) : Type 0 where
+    pub linker : HeldRow R
+    pub held : Contains v.rows linker
+    pub index : ℕ
+    pub inside : index < 512
+    pub link : is_link (slice_index linker.words index) ≡ true
+    pub to_row : link_row (slice_index linker.words index) ≡ row
+
+  -- the place of the stand on the row, of the held row, and of the entry of a held row that links it
+  pub record IsKnownPlace (v : PassView R B E) (row : ℕ) (place : Place) : Type 0 where
+    pub of_stand : (s : Stand) → v.core.stand ≡ Some s → s.row ≡ row → place ≡ s.place
+    pub of_held : (h : HeldRow R) → Contains v.rows h → h.row ≡ row → place ≡ h.place
+    pub of_entry : (l : LinksRow v row) → place ≡ entry_place (levels_of v.layout) l.linker.place l.index
+
+  -- the pass s holds the row: it is the pass itself where that holds the row, and else another one
+  pub record IsHolder (v : PassView R B E) (row s : ℕ) : Type 0 where
+    pub there : s < v.layout.passes
+    pub own : Has v.core.held row → s ≡ v.number
+    pub other : (s ≢ v.number) ⊎ Has v.core.held row
+
+  -- the pass does not hold the row, and no row that it holds links it
+  pub record IsLoose (v : PassView R B E) (row : ℕ) : Type 0 where
+    pub not_held : ¬ Has v.core.held row
+    pub unlinked : ¬ LinksRow v row
+
+  -- the pass n of a table with so many rows: the rows that it stands on, that held rows link and that it was granted are there
+  pub record IsSized (n rows : ℕ) (id : TableId) (v : PassView R B E) : Type 0 where
+    pub slots : id.slots ≡ rows + 1
+    pub words : id.words ≡ word_count v.layout
+    pub rows_are : rows ≡ v.layout.rows
+    pub number : n < v.layout.passes
+    pub stand : (s : Stand) → v.core.stand ≡ Some s → s.row < rows
+    pub links : (h : HeldRow R) → Contains v.rows h → LinksBelow rows h.words
+    pub granted : (r : ℕ) → Has (granted_rows v.core) r → r < rows

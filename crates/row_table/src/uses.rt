@@ -1,0 +1,128 @@
+//! Callers that rely on the public clauses alone.
+ghost use Rattle.std.specs.Prelude.{◌≡◌, ◌≢◌, ◌<◌, true, false, MatchOption};
+ghost use Rattle.walk_core.specs.Words.{is_link, link_row};
+ghost use Rattle.row_table.specs.Passes.{view_of, number_of, table_of, IsPassOf};
+ghost use Rattle.row_table.specs.Close.{IsIdle};
+ghost use Rattle.row_table.specs.Uses.{IsStanding};
+
+use crate::answers::{Grabbed, Turned};
+use crate::pass::Pass;
+use crate::plan::Plan;
+use crate::table::Iron;
+
+/// A small plan: a book of pairs of a thread and a number.
+pub(crate) struct Tally;
+
+impl Plan for Tally {
+    ghost use Rattle.row_table.specs.Tally.{tally, lawful};
+
+    type Row = u8;
+
+    type Book = Vec<(u8, u32)>;
+
+    type Kit = ();
+
+    type Entry = (u8, u32);
+
+    ghost meaning = { tally };
+
+    ghost lawful = { lawful };
+}
+
+/// What a visit found.
+#[derive(Debug, PartialEq, Drop)]
+pub(crate) enum Visit {
+    /// It had this row for a moment.
+    Got(u32),
+    /// This pass holds the row.
+    Held(u8),
+    Stale,
+    Worn,
+}
+
+// The row that a word links.
+#[tactic(auto, unfolding(walk_core::specs::Words::is_link, walk_core::specs::Words::link_word))]
+fn linked(word: u64) -> Option<u32>
+    ensures { MatchOption result (is_link word ≡ false) (λ row. (is_link word ≡ true) × (row ≡ link_row word)) }
+{
+    let row = word / 4096 % 1024;
+    let generation = word / 4_194_304;
+    if word == 519 + row * 4096 + generation * 4_194_304 && generation < 1 << 30 {
+        Some(row as u32)
+    } else {
+        None
+    }
+}
+
+// Goes on to the row that an entry links, if it links one.
+fn go_down<P: Plan>(iron: &Iron<P>, pass: &mut Pass<P>, row: u32, index: u32) -> u32
+    requires table { IsPassOf iron.now pass.old }
+    requires inside { index < 512 }
+    requires stands { IsStanding (view_of pass.old) row }
+    ensures table { table_of pass.new ≡ table_of pass.old }
+    ensures number { number_of pass.new ≡ number_of pass.old }
+    ensures stands { IsStanding (view_of pass.new) result }
+{
+    let word = pass.look(iron, row, index);
+    match linked(word) {
+        Some(next) => next,
+        None => row,
+    }
+}
+
+// Takes the row, leaves, and gives it back.
+fn touch<P: Plan>(iron: &Iron<P>, pass: &mut Pass<P>, row: u32) -> Visit
+    requires table { IsPassOf iron.now pass.old }
+    requires stands { IsStanding (view_of pass.old) row }
+    ensures table { table_of pass.new ≡ table_of pass.old }
+    ensures idle { IsIdle (view_of pass.new) }
+    ensures other { (s : _) → result ≡ Visit.Held s → s ≢ number_of pass.old }
+{
+    let found = pass.grab(iron, row);
+    pass.leave(iron);
+    match found {
+        Grabbed::Got(content) => {
+            pass.release(iron, row, content);
+            Visit::Got(row)
+        }
+        Grabbed::Held(holder) => Visit::Held(holder),
+        Grabbed::Stale => Visit::Stale,
+    }
+}
+
+/// Goes two rows down from row 0 without a lock, has the row that it comes to for a moment, and is outside again.
+/// Where another pass holds that row, it is not this one.
+pub(crate) fn look_in<P: Plan>(iron: &Iron<P>, pass: &mut Pass<P>, first: u32, second: u32) -> Visit
+    requires table { IsPassOf iron.now pass.old }
+    requires idle { IsIdle (view_of pass.old) }
+    requires inside { (first < 512) × (second < 512) }
+    ensures table { table_of pass.new ≡ table_of pass.old }
+    ensures idle { IsIdle (view_of pass.new) }
+    ensures other { (s : _) → result ≡ Visit.Held s → s ≢ number_of pass.old }
+{
+    match pass.enter(iron) {
+        Ok(()) => {
+            let row = go_down(iron, pass, 0, first);
+            let row = go_down(iron, pass, row, second);
+            touch(iron, pass, row)
+        }
+        Err(_) => Visit::Worn,
+    }
+}
+
+/// Takes the book if no pass has it, adds an entry of the pass's own, and gives it back.
+pub(crate) fn add_entry(iron: &Iron<Tally>, pass: &mut Pass<Tally>, count: u32) -> bool
+    requires table { IsPassOf iron.now pass.old }
+    requires idle { IsIdle (view_of pass.old) }
+    ensures table { table_of pass.new ≡ table_of pass.old }
+    ensures idle { IsIdle (view_of pass.new) }
+{
+    match pass.turn(iron) {
+        Turned::Got(mut entries) => {
+            let _ = entries.push((pass.number(), count));
+            pass.give(iron, entries);
+            true
+        }
+        Turned::Held(_) => false,
+    }
+}

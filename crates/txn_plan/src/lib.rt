@@ -1,0 +1,18 @@
+//! What a transaction on the plain machine wants: which of its operations is refused first, the page tables that it
+//! needs, and the cells after it. The work is that of the pages that are there and of at most 16 ranges.
+#![tactic(auto)]
+
+mod act;
+mod adding;
+mod committing;
+mod forgetting;
+mod judge;
+mod make;
+mod need;
+mod operation;
+mod pieces;
+
+pub use committing::commit;
+pub use forgetting::forget_unmapped;
+pub use judge::first_undone;
+pub use need::tables_needed;
