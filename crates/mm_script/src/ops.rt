@@ -8,7 +8,7 @@ ghost use Rattle.mm_script.specs.CallLine.{fresh_word, backing_words, op_words, 
 
 use crate::call_words::{next_address, next_backing, next_number, next_perm};
 use crate::op_names::{OpName, op_name};
-use corten_base::{OpList, TxnOp};
+use corten_base::{AddFault, OpList, TxnOp};
 use std::alloc::{AllocError, Global};
 use text_words::Words;
 
@@ -89,7 +89,8 @@ fn add_op(ops: &mut OpList, op: TxnOp) -> Result<(), AllocError>
 {
     match ops.push(op) {
         Ok(()) => Ok(()),
-        Err(_) => Err(AllocError),
+        Err(AddFault::NoMemory(_)) => Err(AllocError),
+        Err(AddFault::Full(_)) => unreachable!(),
     }
 }
 
