@@ -12,8 +12,9 @@ use Rattle.text_words.specs.Spelling.{number}
 use Rattle.text_words.proofs.OneValue.{number_injective}
 use Rattle.text_words.proofs.SpelledBytes.{IsNoDigit-below, HasNo-number, HasNo-joined}
 use Rattle.text_words.proofs.WordLists.{joined-words_of, words_of-joined}
-use Rattle.mm_script.specs.CallLine.{call_words, IsCall, EndsCall}
+use Rattle.mm_script.specs.CallLine.{call_words, spaced, IsCall, EndsCall}
 use Rattle.mm_script.proofs.CallForms.{other_word}
+use Rattle.mm_script.proofs.OpLines.{joined_spaced, spaced-append}
 use Rattle.mm_script.proofs.OneCall.{one_call, call_words_have_no, ends_before}
 use Rattle.history_text.specs.Replies.{reply_words, IsReply}
 use Rattle.history_text.specs.HistoryText.{entry_words, entry_line, IsEntry}
@@ -77,6 +78,19 @@ no_call_behind thread words left are none e rest he is =
     let from_call' : List (List ℕ) = call_words e.call ++ codes "=" ∷ (reply_words e.reply ++ rest) in
     let whole : number thread ∷ left ≡ number e.thread ∷ from_call' = sym are ∙ is ∙ entry_words-append e rest in
     none e.call (codes "=" ∷ (reply_words e.reply ++ rest)) he.call (ends_here e.call _) (same_behind _ _ left from_call' whole)
+
+-- the line of an answered call, from its parts
+spaced_joined : (words : List (List ℕ)) → words ≢ [] → spaced words ≡ 32 ∷ joined words
+spaced_joined [] some = absurd (some refl)
+spaced_joined (w ∷ words) some = sym (ap (λ t. 32 ∷ t) (joined_spaced w words))
+
+pub answer_written : (front first : List ℕ) (call reply : List (List ℕ)) → call ≢ [] → reply ≢ []
+    → ((((front ++ first) ++ 32 ∷ []) ++ joined call) ++ (32 ∷ 61 ∷ 32 ∷ [])) ++ joined reply ≡ front ++ joined (first ∷ (call ++ codes "=" ∷ reply))
+answer_written front first call reply some_call some_reply =
+    let parts : joined (first ∷ (call ++ codes "=" ∷ reply)) ≡ first ++ ((32 ∷ joined call) ++ (32 ∷ 61 ∷ 32 ∷ joined reply)) =
+    joined_spaced first (call ++ codes "=" ∷ reply) ∙ ap (λ t. first ++ t) (spaced-append call (codes "=" ∷ reply) ∙ (λ i. spaced_joined call some_call i ++ (32 ∷ 61 ∷ spaced_joined reply some_reply i))) in
+    let flat : ((((front ++ first) ++ 32 ∷ []) ++ joined call) ++ (32 ∷ 61 ∷ 32 ∷ [])) ++ joined reply ≡ front ++ (first ++ ((32 ∷ joined call) ++ (32 ∷ 61 ∷ 32 ∷ joined reply))) = simp append_assoc in
+    flat ∙ ap (λ t. front ++ t) (sym parts)
 
 -- what a reader says where it found none
 pub none_read : {X : Type 0} (r : Option X) (P : Type 0) → ((x : X) → r ≢ Some x) → IfNone r P → P
