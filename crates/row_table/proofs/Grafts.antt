@@ -55,13 +55,13 @@ stands_there v1 v2 n p at e is =
 pub stands_on_root : (v1 v2 : View) (n : ℕ) (p : Place) → v1.core.stand ≡ Some top → v2 ≡ looked_at v1 0 p 0 n → n ≡ root_link → StandsOn v2.core 1
 stands_on_root v1 v2 n p at e is = (record { row = 1; place = entry_place (levels_of v1.layout) directory 0; generation = link_generation root_link }, stands_there v1 v2 n p at e is, refl)
 
-pub holds_it : (v2 v3 v4 : View) (f : Finds 1 v2) (x : ℕ) → v3 ≡ got v2 1 f.place f.words x → v4 ≡ left v3 → Has v4.core.held 1
+pub holds_it : (v2 v3 v4 : View) (f : Finds 1 v2) (x : ℕ) → v3 ≡ got v2 1 f.place f.generation f.words x → v4 ≡ left v3 → Has v4.core.held 1
 holds_it v2 v3 v4 f x e3 e4 = let same = ap (times 1) (ap (λ (v : View). v.core.held) e4 ∙ ap (λ (v : View). v.core.held) e3) in let more = times-append 1 v2.core.held (1 ∷ []) in let one = times_one_same 1 1 refl in omega arith
 
-pub took : (v0 v1 v2 v3 v4 v5 : View) (n m x : ℕ) (p : Place) → IsIdle v0 → v1 ≡ entered v0 → v2 ≡ looked_at v1 0 p 0 n → n ≡ root_link → (f : Finds 1 v2) → v3 ≡ got v2 1 f.place f.words x → v4 ≡ left v3
+pub took : (v0 v1 v2 v3 v4 v5 : View) (n m x : ℕ) (p : Place) → IsIdle v0 → v1 ≡ entered v0 → v2 ≡ looked_at v1 0 p 0 n → n ≡ root_link → (f : Finds 1 v2) → v3 ≡ got v2 1 f.place f.generation f.words x → v4 ≡ left v3
     → (r : Reads v4 1 5 m) → v5 ≡ looked_at v4 1 r.place 5 m → m ≡ 0 → HasRoot v5 0 (1 ∷ []) [] [] false
 took v0 v1 v2 v3 v4 v5 n m x p idle e1 e2 is f e3 e4 r e5 z =
-    let g : HeldRow ℕ = grabbed 1 f.place f.words x in
+    let g : HeldRow ℕ = grabbed 1 f.place f.generation f.words x in
     let here : Contains v4.rows g = subst (λ (l : List (HeldRow ℕ)). Contains l g) (sym (ap (λ (v : View). v.rows) e4 ∙ ap (λ (v : View). v.rows) e3)) (Contains-append_right v2.rows (g ∷ []) g (in_head g [])) in
     let stand = stands_there v1 v2 n p (ap (λ (v : View). v.core.stand) e1) e2 is in
     let layout : v5.layout ≡ v1.layout = ap (λ (v : View). v.layout) e5 ∙ (ap (λ (v : View). v.layout) e4 ∙ (ap (λ (v : View). v.layout) e3 ∙ ap (λ (v : View). v.layout) e2)) in

@@ -9,7 +9,7 @@ use native.Mathlib.Decide.{ℕ_discrete}
 use lib.ListN.{get_elem?}
 use Rattle.table_place.specs.Place.{entry_place, is_place}
 use Rattle.walk_core.specs.declared.pass.PassCore.{PassCore}
-use Rattle.walk_core.specs.Words.{entry_at, lock_at, is_link, link_row, held_by, stale}
+use Rattle.walk_core.specs.Words.{entry_at, lock_at, is_link, link_row, link_generation, held_by, stale}
 use Rattle.walk_core.specs.Lists.{Has, times}
 use Rattle.walk_core.specs.Core.{Core, pass_at, idle, IsLinked}
 use Rattle.walk_core.specs.Good.{inside, Good, LockSays, says_free, says_held, says_stale}
@@ -20,9 +20,9 @@ use Rattle.row_layout.specs.declared.places.Layout.{Layout}
 use Rattle.row_table.specs.declared.view.PassView.{PassView}
 use Rattle.row_table.specs.declared.view.HeldRow.{HeldRow}
 use Rattle.row_table.specs.Plan.{Meaning}
-use Rattle.row_table.specs.Rows.{row_words, place_at}
+use Rattle.row_table.specs.Rows.{row_words, place_at, generation_of}
 use Rattle.row_table.specs.Rule.{Table, levels_of, core_of, Holds}
-use Rattle.row_table.specs.Known.{LinksRow, IsKnownPlace, IsHolder, IsLoose, LinksBelow, LinksLead, IsRight}
+use Rattle.row_table.specs.Known.{LinksRow, IsKnownPlace, IsKnownGeneration, IsHolder, IsLoose, LinksBelow, LinksLead, IsRight}
 use Rattle.row_table.proofs.Shown.{word_at}
 use Rattle.row_table.proofs.Views.{pass_is, has_held}
 
@@ -47,6 +47,16 @@ module _ {R B E : Type 0} (M : Meaning R B E) (k : Layout) (first : B) (s : Tabl
         of_entry = λ l. let o = know.rows l.linker l.held in let at = entry_is l.linker l.held l.index l.inside in
             let t = h.good.links.links_true l.linker.row l.index o.there l.inside (ap is_link at ∙ l.link) in
             ap (place_at s.words) (sym (ap link_row at ∙ l.to_row)) ∙ (t.place ∙ (λ j. entry_place (levels_of (sym know.layout j)) (o.place j) l.index));
+      }
+
+  pub generation_known : (r : ℕ) → IsKnownGeneration v r (generation_of s.words r)
+  generation_known r =
+      let know = h.knows v.number v mine in record {
+        of_stand = λ t is same. let stand = h.good.stands.stand v.number t (ap (λ (u : PassCore). u.stand) (pass_is M k first s h v mine) ∙ is) in ap (generation_of s.words) (sym same) ∙ stand.generation;
+        of_held = λ x j same g is. ap (generation_of s.words) (sym same) ∙ (know.rows x j).generation g is;
+        of_entry = λ l. let o = know.rows l.linker l.held in let at = entry_is l.linker l.held l.index l.inside in
+            let t = h.good.links.links_true l.linker.row l.index o.there l.inside (ap is_link at ∙ l.link) in
+            ap (generation_of s.words) (sym (ap link_row at ∙ l.to_row)) ∙ (t.generation ∙ ap link_generation at);
       }
 
   -- the rows that the entries of a row link are there

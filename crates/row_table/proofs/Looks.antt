@@ -56,7 +56,7 @@ module _ {R B E : Type 0} (M : Meaning R B E) where
         layout = know.layout;
         epoch = know.epoch;
         held = know.held;
-        rows = λ y j. let o = know.rows y j in record { there = o.there; shown = o.shown; place = o.place; agrees = o.agrees };
+        rows = λ y j. let o = know.rows y j in record { there = o.there; shown = o.shown; place = o.place; generation = o.generation; agrees = o.agrees };
         granted = know.granted;
         hand = know.hand;
         vacant = know.vacant;

@@ -112,16 +112,16 @@ module _ {R B E : Type 0} {n rows : ℕ} {id : TableId} {v : PassView R B E} (ol
   pub sized_miss : (r : ℕ) (place : Place) (w : ℕ) → IsSized n rows id (looked v r place None w)
   sized_miss r place w = record { slots = old.slots; words = old.words; rows_are = old.rows_are; number = old.number; stand = old.stand; links = old.links; granted = old.granted }
 
-  pub sized_got : (r : ℕ) (place : Place) (words : List ℕ) (x : R) → LinksBelow v.layout.rows words → IsSized n rows id (got v r place words x)
-  sized_got r place words x below = record {
+  pub sized_got : (r : ℕ) (place : Place) (g : ℕ) (words : List ℕ) (x : R) → LinksBelow v.layout.rows words → IsSized n rows id (got v r place g words x)
+  sized_got r place g words x below = record {
     slots = old.slots;
     words = old.words;
     rows_are = old.rows_are;
     number = old.number;
     stand = old.stand;
     links = λ h i. ⊎_elim (λ (j : Contains v.rows h). old.links h j)
-        (λ (e : grabbed r place words x ≡ h). subst (λ (y : HeldRow R). LinksBelow rows y.words) e (subst (λ (m : ℕ). LinksBelow m words) (sym old.rows_are) below))
-        (Contains-push_cases v.rows (grabbed r place words x) h i);
+        (λ (e : grabbed r place g words x ≡ h). subst (λ (y : HeldRow R). LinksBelow rows y.words) e (subst (λ (m : ℕ). LinksBelow m words) (sym old.rows_are) below))
+        (Contains-push_cases v.rows (grabbed r place g words x) h i);
     granted = old.granted;
   }
 

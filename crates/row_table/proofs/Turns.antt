@@ -156,7 +156,7 @@ module _ {R B E : Type 0} (M : Meaning R B E) where
               layout = now.layout;
               epoch = now.epoch;
               held = now.held;
-              rows = λ y i. let o = now.rows y i in record { there = o.there; shown = o.shown; place = o.place; agrees = o.agrees };
+              rows = λ y i. let o = now.rows y i in record { there = o.there; shown = o.shown; place = o.place; generation = o.generation; agrees = o.agrees };
               granted = now.granted;
               hand = now.hand;
               vacant = now.vacant;
@@ -186,7 +186,7 @@ module _ {R B E : Type 0} (M : Meaning R B E) where
               layout = now.layout;
               epoch = now.epoch;
               held = now.held;
-              rows = λ y i. let o = now.rows y i in record { there = o.there; shown = o.shown; place = o.place; agrees = o.agrees };
+              rows = λ y i. let o = now.rows y i in record { there = o.there; shown = o.shown; place = o.place; generation = o.generation; agrees = o.agrees };
               granted = now.granted;
               hand = now.hand;
               vacant = now.vacant;
@@ -267,6 +267,7 @@ module _ {R B E : Type 0} (M : Meaning R B E) where
                 there = is.there;
                 shown = is.shown;
                 place = is.place;
+                generation = is.generation;
                 agrees = λ _. record { found = λ e. absurd (cc); given = λ _ a e words x agrees. let same : new ≡ a = cc in subst (λ (b : B). M.agrees b o.0.place words x) (sym same) agrees };
               });
           granted = map-append hand_part v.hand fresh ∙ ((λ i. now.granted i ++ (same_parts (λ r. record { row = r; generation = generation_of s.words r; low = M.next_generation h.book; high = M.next_generation new; place = None }) hand_part (λ (x : ℕ). x) (λ x. refl) taken
@@ -312,6 +313,7 @@ module _ {R B E : Type 0} (M : Meaning R B E) where
             there = o.there;
             shown = o.shown;
             place = o.place;
+            generation = o.generation;
             agrees = λ hand. let a = o.agrees hand in record {
               found = λ e y is. row_stays x i hand x.words_found y (a.found e y is);
               given = λ e b last words y agrees. row_stays x i hand words y (a.given e b last words y agrees);

@@ -1,6 +1,6 @@
 -- What a pass knows of rows by what it stands on and holds.
 --     LinksRow      a held row has an entry that links the row
---     IsKnownPlace      where a row is, as far as the pass knows
+--     IsKnownPlace, IsKnownGeneration      where a row is and what generation it has, as far as the pass knows
 --     IsHolder, IsAnother, IsLoose      which pass holds a row, another pass, and a row that nobody may take
 --     LinksBelow, LinksLead      the rows that entry words link are there, and at positions of tables
 --     IsRight      what is always true of what a pass knows
@@ -11,7 +11,7 @@ use Rattle.atomic_table.specs.Seated.{TableId}
 use Rattle.table_place.specs.declared.Place.{Place}
 use Rattle.table_place.specs.Place.{entry_place, is_place}
 use Rattle.walk_core.specs.declared.pass.Stand.{Stand}
-use Rattle.walk_core.specs.Words.{is_link, link_row}
+use Rattle.walk_core.specs.Words.{is_link, link_row, link_generation}
 use Rattle.walk_core.specs.Lists.{Has, IsDistinct}
 use Rattle.walk_core.specs.Core.{granted_rows}
 use Rattle.walk_core.specs.Good.{inside as inside_now}
@@ -51,6 +51,12 @@ module _ {R B E : Type 0} where
     pub of_stand : (s : Stand) → v.core.stand ≡ Some s → s.row ≡ row → place ≡ s.place
     pub of_held : (h : HeldRow R) → Contains v.rows h → h.row ≡ row → place ≡ h.place
     pub of_entry : (l : LinksRow v row) → place ≡ entry_place (levels_of v.layout) l.linker.place l.index
+
+  -- the generation of the stand on the row, of the held row, and in the entry of a held row that links it
+  pub record IsKnownGeneration (v : PassView R B E) (row generation : ℕ) : Type 0 where
+    pub of_stand : (s : Stand) → v.core.stand ≡ Some s → s.row ≡ row → generation ≡ s.generation
+    pub of_held : (h : HeldRow R) → Contains v.rows h → h.row ≡ row → (g : ℕ) → h.generation ≡ Some g → generation ≡ g
+    pub of_entry : (l : LinksRow v row) → generation ≡ link_generation (slice_index l.linker.words l.index)
 
   -- the pass s holds the row: it is the pass itself where that holds the row, and else another one
   pub record IsHolder (v : PassView R B E) (row s : ℕ) : Type 0 where
