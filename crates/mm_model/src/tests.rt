@@ -119,32 +119,34 @@ enum Wanted {
     NoSwap(u32, u32),
 }
 
-fn is_wanted(reply: &Reply, wanted: Wanted) -> bool {
+/// The reply that is wanted.
+fn reply_of(wanted: Wanted) -> Reply {
     match wanted {
-        Wanted::Ok => *reply == Reply::Ok,
-        Wanted::Einval => *reply == Reply::Einval,
-        Wanted::NoSpace => *reply == Reply::NoSpace,
-        Wanted::NoRoom => *reply == Reply::NoRoom,
-        Wanted::At(at) => *reply == Reply::At(at),
-        Wanted::Segv(at) => *reply == Reply::Segv(at),
-        Wanted::Denied(at) => *reply == Reply::Denied(at),
-        Wanted::Bus(at) => *reply == Reply::Bus(at),
-        Wanted::Exists(at) => *reply == Reply::Exists(at),
-        Wanted::Hole(at) => *reply == Reply::Hole(at),
-        Wanted::NoFrames(free, need) => *reply == Reply::NoFrames { free, need },
-        Wanted::Space(new) => *reply == Reply::Space(new),
-        Wanted::NoSpaces => *reply == Reply::NoSpaces,
-        Wanted::NoTables(linked, need) => {
-            *reply
-                == Reply::NoTables {
-                    linked,
-                    limbo: 0,
-                    need,
-                }
-        }
-        Wanted::Moved(pages) => *reply == Reply::Moved(pages),
-        Wanted::NoSwap(free, need) => *reply == Reply::NoSwap { free, need },
+        Wanted::Ok => Reply::Ok,
+        Wanted::Einval => Reply::Einval,
+        Wanted::NoSpace => Reply::NoSpace,
+        Wanted::NoRoom => Reply::NoRoom,
+        Wanted::At(at) => Reply::At(at),
+        Wanted::Segv(at) => Reply::Segv(at),
+        Wanted::Denied(at) => Reply::Denied(at),
+        Wanted::Bus(at) => Reply::Bus(at),
+        Wanted::Exists(at) => Reply::Exists(at),
+        Wanted::Hole(at) => Reply::Hole(at),
+        Wanted::NoFrames(free, need) => Reply::NoFrames { free, need },
+        Wanted::Space(new) => Reply::Space(new),
+        Wanted::NoSpaces => Reply::NoSpaces,
+        Wanted::NoTables(linked, need) => Reply::NoTables {
+            linked,
+            limbo: 0,
+            need,
+        },
+        Wanted::Moved(pages) => Reply::Moved(pages),
+        Wanted::NoSwap(free, need) => Reply::NoSwap { free, need },
     }
+}
+
+fn is_wanted(reply: &Reply, wanted: Wanted) -> bool {
+    *reply == reply_of(wanted)
 }
 
 /// A call on the space of this number, and the reply that thread 0 gets.
