@@ -1,6 +1,6 @@
 -- A call that makes an access to a space that is present: what it may rely on, and what it leaves.
-use Rattle.std.proofs.Common.{◌≡◌, ℕ, ◌+◌, ◌≤◌, List, [], refl, sym, ap, subst, ◌∙◌, arith}
-use Rattle.std.specs.Prelude.{Some, None, Result, Ok, Err, IfOk, IfErr, OnErr, IfSome, IsSome, slice_index}
+use Rattle.std.proofs.Common.{◌≡◌, ℕ, ◌+◌, ◌≤◌, List, refl, sym, ap, subst, ◌∙◌, arith}
+use Rattle.std.specs.Prelude.{Some, None, Result, Ok, Err, IfOk, IfErr, OnErr, IfSome, IsSome}
 use Rattle.std.specs.Option.{unwrap_or}
 use Rattle.std.specs.FinMap as fin
 use Rattle.std.specs.FinMap.{get}
@@ -9,15 +9,13 @@ use Rattle.corten_base.specs.declared.calls.Reply.{Reply}
 use Rattle.corten_base.specs.declared.calls.Reply.TheVariants as reply
 use Rattle.page_map.specs.Cell.{frame_of, slot_of}
 use Rattle.page_map.specs.State.{State, AddressSpace, IsConsistent, linked, space_at}
-use Rattle.page_map.specs.Takes.{grant}
 use Rattle.page_map.specs.Access.{Access, first_page, page_count, outside_user_pages, after_access}
 use Rattle.page_map.specs.Effect.{state_after, answer}
 use Rattle.page_map.specs.Step.{step, refusal}
 use Rattle.page_map.proofs.Steps.{accepted, refused}
 use Rattle.page_map.proofs.StepKeeps.{step_keeps}
-use Rattle.plain_counts.specs.Owners.{unused_of}
 use Rattle.mm_model.specs.Plain.{IsSound}
-use Rattle.plain_spaces.specs.Reach.{wanting, refused_in, IsWhole, IsCounted, Makes, Keeps}
+use Rattle.plain_spaces.specs.Reach.{refused_in, IsWhole, IsCounted, Makes, Keeps}
 use Rattle.mm_model.specs.Accesses.{Refuses, Accepts, answered}
 use Rattle.plain_spaces.specs.Wants.{refusal_of}
 use Rattle.plain_spaces.specs.declared.access.Stop.{Stop}

@@ -1,8 +1,7 @@
 -- The step of a call that removes a space.
-use Rattle.std.proofs.Common.{◌≡◌, ℕ, ◌+◌, ◌-◌, ◌*◌, ◌<◌, ◌≤◌, ◌^◌, Bool, true, false, cond, not, List, [], ◌∷◌, length, refl, sym, ap, subst, ◌∙◌, arith}
-use mathlib.Core.Bool.{true≢false}
-use mathlib.Core.Logic.{◌⊎◌, inl, inr}
-use Rattle.std.specs.Prelude.{Option, Some, None, IsSome, is_some, map, nat_eq, nat_le, nat_lt, min, slice_index}
+use Rattle.std.proofs.Common.{◌≡◌, ℕ, ◌+◌, ◌-◌, ◌<◌, ◌≤◌, ◌^◌, Bool, true, false, cond, List, [], ◌∷◌, length, refl, sym, ap, subst, ◌∙◌, arith}
+use mathlib.Core.Logic.{inl, inr}
+use Rattle.std.specs.Prelude.{Option, Some, None, is_some, nat_eq, nat_le, nat_lt, min}
 use Rattle.std.specs.Option.{option_or, unwrap_or}
 use Rattle.std.specs.List.{sum_by, count_by}
 use Rattle.std.specs.Ordering.{nat_cmp}
@@ -19,10 +18,10 @@ use Rattle.page_map.specs.declared.cell.Cell.{Cell}
 use Rattle.page_map.specs.Cell.{frame_of, slot_of}
 use Rattle.page_map.specs.Change.{change}
 use Rattle.page_map.specs.Mapping.{arena_first}
-use Rattle.page_map.specs.State.{State, AddressSpace, IsConsistent, linked, is_present, space_at, cell_at, carries, owners, unused_frames, unused_slots}
-use Rattle.page_map.specs.Tables.{Tables, need, changed_tables}
-use Rattle.page_map.specs.Effect.{wanted_tables, is_given_up, state_after, answer}
-use Rattle.page_map.specs.Step.{step, refusal, first_refusal, refused_unless, no_tables, no_frames, no_swap}
+use Rattle.page_map.specs.State.{State, AddressSpace, IsConsistent, linked, is_present, space_at, carries, owners, unused_frames, unused_slots}
+use Rattle.page_map.specs.Tables.{Tables, need}
+use Rattle.page_map.specs.Effect.{wanted_tables, state_after, answer}
+use Rattle.page_map.specs.Step.{step, refusal, first_refusal, refused_unless, no_tables}
 use Rattle.page_map.proofs.Evaluate.{union_empty}
 use Rattle.page_map.proofs.Owners.{weight_at}
 use Rattle.page_map.proofs.Places.{place_total, place_exact}

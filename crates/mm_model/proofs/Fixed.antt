@@ -1,12 +1,11 @@
 -- A mapping at an address.
-use Rattle.std.proofs.Common.{◌≡◌, ℕ, ◌+◌, ◌*◌, ◌/◌, ◌%◌, ◌≤◌, ◌<◌, Bool, true, false, cond, [], Some, None, refl, sym, ap, subst, ◌∙◌, arith}
+use Rattle.std.proofs.Common.{◌≡◌, ℕ, ◌*◌, ◌/◌, ◌%◌, Bool, true, false, cond, [], Some, None, refl, sym, ap, subst, ◌∙◌, arith}
 use mathlib.Core.Bool.{true≢false}
 use Rattle.std.specs.Prelude.{Option, ◌&&◌, is_some, nat_eq, nat_lt}
 use Rattle.std.specs.Option.{unwrap_or, option_map}
 use Rattle.std.specs.FinMap as map
 use Rattle.std.specs.FinSet as set
 use Rattle.std.proofs.lemmas.Bool.{eqb-true, and_parts}
-use Rattle.corten_base.specs.declared.calls.Reply.{Reply}
 use Rattle.corten_base.specs.declared.calls.Reply.TheVariants as reply
 use Rattle.corten_base.specs.declared.calls.TxnOp.TheVariants as op
 use Rattle.corten_base.specs.declared.calls.Why.TheVariants as why
@@ -17,7 +16,7 @@ use Rattle.page_map.specs.State.{State, AddressSpace, is_present, space_at}
 use Rattle.page_map.specs.Step.{step}
 use Rattle.page_map.specs.Tables.{need}
 use Rattle.page_map.proofs.Growth.{all_stay}
-use Rattle.mm_model.specs.Placing.{MayPut, IsFixed, after_put, call_at, filled, tables_lack}
+use Rattle.mm_model.specs.Placing.{IsFixed, after_put, call_at, filled, tables_lack}
 use Rattle.mm_model.specs.declared.mapping.Mapping.{Mapping}
 use Rattle.mm_model.proofs.OpCalls.{step_is}
 use Rattle.mm_model.proofs.OpSteps.{IsOp, at_op, new_op, enough}

@@ -1,25 +1,25 @@
 -- A new space: what its numbers do to the counts, and what stays as it was.
-use Rattle.std.proofs.Common.{◌≡◌, ℕ, zero, suc, ◌+◌, ◌-◌, ◌<◌, ◌≤◌, ◌^◌, Bool, true, false, cond, not, List, [], ◌∷◌, ◌++◌, length, get_or, Bor, refl, sym, ap, subst, ◌∙◌, arith}
+use Rattle.std.proofs.Common.{◌≡◌, ℕ, zero, suc, ◌+◌, ◌-◌, ◌<◌, ◌≤◌, Bool, true, false, cond, not, List, [], ◌∷◌, length, get_or, Bor, refl, sym, ap, subst, ◌∙◌, arith}
 use mathlib.Core.Bool.{true≢false}
 use mathlib.Core.Logic.{◌⊎◌, inl, inr}
-use Rattle.std.specs.Prelude.{Option, Some, None, IsSome, ◌||◌, is_some, nat_eq, nat_lt, slice_index}
+use Rattle.std.specs.Prelude.{Option, Some, None, IsSome, ◌||◌, ◌&&◌, is_some, nat_eq, nat_lt, slice_index}
 use Rattle.std.specs.Option.{option_map_or, option_copied, unwrap_or}
-use Rattle.std.specs.List.{sum_by, count_by, list_any}
+use Rattle.std.specs.List.{count_by}
 use Rattle.std.specs.Ordering.{nat_cmp, eq_by_cmp}
 use Rattle.std.specs.Cmp.{nat_cmp_total, nat_eq_equiv, unsigned_tied}
-use Rattle.std.proofs.lemmas.Bool.{cases_lt, le-ltb, lt-ltb, or_cases, eq-eqb, eqb-true}
-use Rattle.std.proofs.lemmas.List.{get_or_default}
+use Rattle.std.proofs.lemmas.Bool.{cases_lt, le-ltb, lt-ltb, or_cases, eqb-true}
 use Rattle.std.specs.FinMap as fin
 use Rattle.std.specs.FinMap.{get, get-empty, get-insert}
 use Rattle.std.specs.FinSet as set
-use Rattle.corten_base.specs.declared.calls.Reply.{Reply}
+use Rattle.std.specs.FinSet.{same_set, contains-difference, contains-union, contains-from_list, contains-empty}
 use Rattle.corten_base.specs.declared.calls.Reply.TheVariants as reply
 use Rattle.table_place.specs.declared.Place.{Place}
 use Rattle.table_place.specs.Place.{place_cmp, root, above}
 use Rattle.page_map.specs.declared.cell.Cell.{Cell}
 use Rattle.page_map.specs.Cell.{frame_of, slot_of}
-use Rattle.page_map.specs.State.{State, AddressSpace, IsConsistent, linked, space_at, cell_at, is_present, carries, owners, frame_owners, slot_owners}
-use Rattle.page_map.specs.Tables.{Tables, need, changed_tables}
+use Rattle.page_map.specs.State.{State, AddressSpace, IsConsistent, linked, space_at, cell_at, carries, owners}
+use Rattle.page_map.specs.Tables.{Tables, need}
+use Rattle.page_map.proofs.Places.{place_total, place_exact}
 use Rattle.page_map.proofs.Steps.{not_none}
 use Rattle.page_map.proofs.Owners.{same_some}
 use Rattle.page_map.proofs.Weights.{weight_insert}
@@ -27,7 +27,7 @@ use Rattle.page_map.proofs.Growth.{is_wanted, grown_len, all_stay}
 use Rattle.page_map.proofs.Above.{any_append}
 use Rattle.plain_counts.specs.Levels.{is_elsewhere}
 use Rattle.plain_counts.specs.Fronts.{AreFull}
-use Rattle.plain_spaces.specs.Copies.{AreLow, IsRoomy, JoinsAll, IsNewTo, tables_above, new_tables}
+use Rattle.plain_spaces.specs.Copies.{IsRoomy, JoinsAll, IsNewTo, tables_above, new_tables}
 use Rattle.plain_spaces.specs.Reach.{carried, IsCounted}
 use Rattle.plain_spaces.proofs.NewTables.{others_stay, none_lost, above_mine, root_mine}
 use Rattle.mm_model.specs.Placing.{tables_lack}
@@ -118,6 +118,29 @@ taken_out st new cells tables ok absent put =
 pub put_in_len : (tables wanted_in : Tables) (wanted : List Place) → wanted_in ≡ set.union tables (set.from_list wanted) → set.len wanted_in ≡ set.len tables + need wanted tables
 put_in_len tables wanted_in wanted put =
     ap set.len put ∙ ap (λ s. set.len (set.union s (set.from_list wanted))) (sym (all_stay (λ _. false) (λ _. refl) [] tables)) ∙ grown_len (λ _. false) (λ _. refl) wanted tables
+
+-- none of them is there
+none_there : (tables : Tables) (new : ℕ) (cells : AddressSpace) → IsNewTo tables new → set.difference (set.from_list (new_tables new cells)) tables ≡ set.from_list (new_tables new cells)
+none_there tables new cells is_new = same_set place_total place_exact _ _ (λ q.
+    contains-difference place_total (set.from_list (new_tables new cells)) tables q
+    ∙ go q (set.contains (set.from_list (new_tables new cells)) q) (set.contains tables q) (sym (contains-from_list place_total (new_tables new cells) q)) refl)
+  where
+    go : (q : Place) (a b : Bool) → is_wanted (new_tables new cells) q ≡ a → set.contains tables q ≡ b → (a && not b) ≡ a
+    go q false b ea eb = refl
+    go q true false ea eb = refl
+    go q true true ea eb = absurd (true≢false (sym (is_new q eb) ∙ new_mine new cells q ea))
+
+pub empty_new : (tables : Tables) (new : ℕ) → tables ≡ set.empty → IsNewTo tables new
+empty_new tables new e p h = absurd (true≢false (sym h ∙ ap (λ s. set.contains s p) e ∙ contains-empty place_cmp p))
+
+-- put in by themselves, they are as many as are needed
+pub alone : (st : State) (new : ℕ) (cells : AddressSpace) (none wanted : Tables) → IsConsistent st → get st.spaces new ≡ None → none ≡ set.empty → wanted ≡ set.union none (set.from_list (new_tables new cells)) →
+    set.len wanted ≡ need (new_tables new cells) st.tables
+alone st new cells none wanted ok absent e put =
+    ap set.len (put ∙ ap (λ s. set.union s (set.from_list (new_tables new cells))) e ∙ only (set.from_list (new_tables new cells)) ∙ sym (none_there st.tables new cells (new_to st new ok absent)))
+  where
+    only : (s : Tables) → set.union set.empty s ≡ s
+    only s = same_set place_total place_exact _ _ (λ q. contains-union place_total set.empty s q ∙ ap (λ b. b || set.contains s q) (contains-empty place_cmp q))
 
 -- too few, or enough
 module _ (st : State) (wanted : List Place) (limbo count : ℕ) (is_count : count ≡ need wanted st.tables) where

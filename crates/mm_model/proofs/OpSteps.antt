@@ -1,5 +1,5 @@
 -- The step of a call that is one mapping operation.
-use Rattle.std.proofs.Common.{◌≡◌, ℕ, ◌+◌, ◌/◌, ◌<◌, ◌≤◌, Bool, true, false, cond, not, List, [], ◌∷◌, ◌++◌, append-nil, length, refl, sym, ap, ◌∙◌, arith}
+use Rattle.std.proofs.Common.{◌≡◌, ℕ, ◌+◌, ◌/◌, ◌≤◌, Bool, true, false, cond, not, List, [], ◌∷◌, append-nil, length, refl, sym, ap, ◌∙◌, arith}
 use Rattle.std.specs.Prelude.{Option, Some, None, is_some, nat_lt}
 use Rattle.std.specs.Option.{option_or, option_map, unwrap_or}
 use Rattle.std.proofs.lemmas.Bool.{le-ltb, ltb-false}
@@ -26,7 +26,7 @@ use Rattle.page_map.proofs.Evaluate.{union_empty}
 use Rattle.page_map.proofs.Steps.{not_none}
 use Rattle.mm_model.specs.Placing.{tables_lack}
 use Rattle.mm_model.specs.declared.mapping.Mapping.{Mapping}
-use Rattle.page_map.specs.Step.{refusal, first_refusal, refused_unless, reply_why, arguments, no_space, no_spaces, no_place, pages, no_tables, no_frames, no_swap}
+use Rattle.page_map.specs.Step.{refusal, first_refusal, refused_unless, reply_why, arguments, no_space, no_spaces, no_place, pages, no_tables}
 
 -- what the definitions say of a call that is this operation in this space, which wants these tables and gives up those
 pub record IsOp (st : State) (c : Call) (space : ℕ) (o : TxnOp) (wanted : List Place) (given_up : Place → Bool) (says : Reply) : Type 0 where

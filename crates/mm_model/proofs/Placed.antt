@@ -1,32 +1,29 @@
 -- A mapping whose pages may go to those from a page on: what is known of them, and what it leaves.
-use Rattle.std.proofs.Common.{◌≡◌, ℕ, ◌+◌, ◌-◌, ◌*◌, ◌/◌, ◌%◌, ◌≤◌, ◌<◌, ◌^◌, true, false, cond, not, List, [], ◌∷◌, ◌++◌, append-nil, length, Some, None, refl, sym, ap, subst, ◌∙◌, arith}
-use Rattle.std.specs.Prelude.{Option, ◌&&◌, nat_eq, nat_le, nat_lt}
-use Rattle.std.specs.Option.{unwrap_or}
+use Rattle.std.proofs.Common.{◌≡◌, ℕ, ◌+◌, ◌*◌, ◌/◌, ◌%◌, ◌≤◌, ◌<◌, ◌^◌, true, false, List, [], length, Some, None, refl, sym, ap, ◌∙◌, arith}
+use Rattle.std.specs.Prelude.{◌&&◌, nat_eq, nat_le, nat_lt}
 use Rattle.std.specs.FinMap as map
 use Rattle.std.specs.FinSet as set
-use Rattle.std.proofs.lemmas.Bool.{ltb-true, leb-true, and_parts, eq-eqb, lt-ltb, ltb-false}
+use Rattle.std.proofs.lemmas.Bool.{ltb-true, leb-true, and_parts, eq-eqb}
 use Rattle.corten_base.specs.declared.calls.Backing.{Backing}
 use Rattle.corten_base.specs.declared.calls.Backing.TheVariants as backing
 use Rattle.corten_base.specs.declared.calls.Call.TheVariants as call
 use Rattle.corten_base.specs.declared.calls.MapPlace.TheVariants as place
-use Rattle.corten_base.specs.declared.calls.Reply.{Reply}
 use Rattle.corten_base.specs.declared.calls.Reply.TheVariants as reply
 use Rattle.corten_base.specs.declared.calls.TxnOp.TheVariants as op
 use Rattle.table_place.specs.Place.{above, is_page_range, is_user_range, pages_of}
 use Rattle.page_map.specs.Cell.{frame_of, slot_of}
-use Rattle.page_map.specs.Mapping.{is_mappable, is_backing, gap, is_right, after_op}
-use Rattle.page_map.specs.State.{State, AddressSpace, linked, space_at, is_present}
-use Rattle.page_map.specs.Step.{step, no_tables}
-use Rattle.page_map.specs.Effect.{answer}
-use Rattle.page_map.specs.Tables.{Tables, need, changed_tables}
+use Rattle.page_map.specs.Mapping.{is_mappable, is_backing, after_op}
+use Rattle.page_map.specs.State.{State, AddressSpace, space_at}
+use Rattle.page_map.specs.Step.{step}
+use Rattle.page_map.specs.Tables.{Tables, need}
 use Rattle.page_map.proofs.Growth.{all_stay}
 use Rattle.page_map.proofs.Mappings.{gap_user, page_range}
-use Rattle.page_map.proofs.Steps.{Passed, passed, accepted, not_none}
+use Rattle.page_map.proofs.Steps.{Passed, passed, accepted}
 use Rattle.page_map.proofs.Unmapped.{held_of}
 use Rattle.plain_spaces.specs.Backing.{index_of}
 use Rattle.plain_counts.specs.Fronts.{AreFull}
 use Rattle.plain_spaces.specs.Reach.{Follows}
-use Rattle.mm_model.specs.Placing.{IsPlaced, MayPut, after_put, call_of, filled, tables_with, tables_lack}
+use Rattle.mm_model.specs.Placing.{IsPlaced, MayPut, after_put, call_of, filled, tables_with}
 use Rattle.mm_model.specs.Plain.{IsSound}
 use Rattle.mm_model.specs.declared.mapping.Mapping.{Mapping}
 use Rattle.mm_model.proofs.OpCalls.{op_stays_sound}

@@ -1,9 +1,9 @@
 -- The step of a call that makes a space or removes one.
-use Rattle.std.proofs.Common.{◌≡◌, ℕ, ◌+◌, ◌-◌, ◌*◌, ◌<◌, ◌≤◌, ◌^◌, Bool, true, false, cond, not, List, [], ◌∷◌, length, refl, sym, ap, subst, ◌∙◌, arith}
+use Rattle.std.proofs.Common.{◌≡◌, ℕ, ◌+◌, ◌<◌, ◌≤◌, ◌^◌, true, false, cond, not, [], ◌∷◌, length, refl, sym, ap, subst, ◌∙◌, arith}
 use mathlib.Core.Bool.{true≢false}
-use Rattle.std.specs.Prelude.{Option, Some, None, IsSome, Result, Ok, Err, IfOk, is_some, map, nat_eq, nat_le, nat_lt, min, slice_index}
+use Rattle.std.specs.Prelude.{Option, Some, None, Result, Ok, Err, IfOk, is_some, map, nat_le, nat_lt}
 use Rattle.std.specs.Option.{option_or, option_map_or, unwrap_or}
-use Rattle.std.specs.List.{sum_by, count_by, flat_map}
+use Rattle.std.specs.List.{count_by}
 use Rattle.std.specs.Ordering.{nat_cmp}
 use Rattle.std.proofs.lemmas.Bool.{le-ltb, ltb-true, and_parts}
 use Rattle.std.specs.FinMap as fin
@@ -14,12 +14,11 @@ use Rattle.corten_base.specs.declared.calls.Call.TheVariants as call
 use Rattle.corten_base.specs.declared.calls.Reply.{Reply}
 use Rattle.corten_base.specs.declared.calls.Reply.TheVariants as reply
 use Rattle.table_place.specs.declared.Place.{Place}
-use Rattle.table_place.specs.Place.{root, above}
+use Rattle.table_place.specs.Place.{root}
 use Rattle.page_map.specs.declared.cell.Cell.{Cell}
 use Rattle.page_map.specs.Cell.{frame_of, slot_of}
 use Rattle.page_map.specs.Spaces.{least_absent}
-use Rattle.page_map.specs.State.{State, AddressSpace, IsConsistent, SharersAgree, linked, is_present, space_at, cell_at, carries, owners, frame_owners, slot_owners, unused_frames, unused_slots}
-use Rattle.page_map.specs.Tables.{Tables, need, changed_tables}
+use Rattle.page_map.specs.State.{State, AddressSpace, IsConsistent, SharersAgree, is_present, space_at, carries, owners, unused_frames, unused_slots}
 use Rattle.page_map.specs.Effect.{wanted_tables, is_given_up, spaces_after, state_after, answer}
 use Rattle.page_map.specs.Step.{step, refusal, first_refusal, refused_unless, arguments, no_space, no_spaces, no_place, pages, no_tables, no_frames, no_swap}
 use Rattle.page_map.proofs.Evaluate.{entries_empty}
@@ -119,12 +118,15 @@ module _ (st : State) (c : Call) (cells : AddressSpace) (is : IsBirth st c cells
           go (Some r) e = sym (refused st thread c limbo r (decided ∙ e))
           go None e = (λ i. (sym (is.answer_is thread new least) i, after_is i)) ∙ sym (accepted st thread c limbo (decided ∙ e))
 
+      pub too_few_tables : (r : Reply) → tables_lack st (new_tables new cells) limbo ≡ Some r → (r, st) ≡ step st thread c limbo
+      too_few_tables r e = sym (refused st thread c limbo r (decided ∙ e))
+
       pub keeps : thread < 8 → IsConsistent st → tables_lack st (new_tables new cells) limbo ≡ None → IsConsistent (with_space st new cells)
       keeps few ok enough = subst IsConsistent (sym (ap (λ p. p.1) born) ∙ ap (λ o. (made_unless o st new cells).1) enough) (step_keeps st thread limbo c few ok)
 
 -- ---- what `make` asks for
 
-least_is_absent : (st : State) (new : ℕ) → least_absent st ≡ Some new → get st.spaces new ≡ None
+pub least_is_absent : (st : State) (new : ℕ) → least_absent st ≡ Some new → get st.spaces new ≡ None
 least_is_absent st new e = go (get st.spaces new) (least_passes 0 64 (λ s. not (is_present st s)) new e).2
   where
     go : (o : Option AddressSpace) → not (is_some o) ≡ true → o ≡ None
@@ -176,6 +178,12 @@ pub forked : (st : State) (space new limbo thread : ℕ) (cells : AddressSpace) 
 forked st space new limbo thread cells here least =
     ap (λ m. made st new m limbo) (sym (ap (λ o. unwrap_or o fin.empty) here))
     ∙ born st (call.Fork space) (space_at st space) (fork_birth st space) thread limbo (ap (λ o. refused_unless (is_some o) reply.NoSpace) here) new least
+
+pub fork_refused : (st : State) (space new limbo thread : ℕ) (cells : AddressSpace) (r : Reply) → get st.spaces space ≡ Some cells → least_absent st ≡ Some new → tables_lack st (new_tables new cells) limbo ≡ Some r →
+    (r, st) ≡ step st thread (call.Fork space) limbo
+fork_refused st space new limbo thread cells r here least lack =
+    too_few_tables st (call.Fork space) (space_at st space) (fork_birth st space) thread limbo (ap (λ o. refused_unless (is_some o) reply.NoSpace) here) new least r
+    (ap (λ m. tables_lack st (new_tables new m) limbo) (ap (λ o. unwrap_or o fin.empty) here) ∙ lack)
 
 -- what follows from an outcome
 pub if_ok : {A E : Type 0} {P Q : A → Type 0} (r : Result A E) → IfOk r P → ((x : A) → P x → Q x) → IfOk r Q

@@ -1,17 +1,18 @@
 //! Making spaces and removing them.
-ghost use Rattle.std.specs.Prelude.{◌≡◌, ℕ, ◌+◌, ◌≤◌, IfOk, OnOk, OnErr};
+ghost use Rattle.std.specs.Prelude.{◌≡◌, ℕ, ◌+◌, ◌≤◌, None, IfOk, OnOk, OnErr};
 ghost use Rattle.std.specs.FinMap as map;
 ghost use Rattle.corten_base.specs.declared.calls.Call.TheVariants as call;
 ghost use Rattle.page_map.specs.Cell.{frame_of, slot_of};
 ghost use Rattle.page_map.specs.State.{linked};
 ghost use Rattle.page_map.specs.Step.{step};
-ghost use Rattle.plain_spaces.specs.Copies.{AreLow, IsRoomy, JoinsAll};
+ghost use Rattle.plain_spaces.specs.Copies.{AreLow, IsRoomy, JoinsAll, new_tables};
 ghost use Rattle.plain_spaces.specs.Reach.{IsCounted};
 ghost use Rattle.mm_model.specs.NewSpaces.{MayMake, made};
+ghost use Rattle.mm_model.specs.Placing.{tables_lack};
 
 use crate::plain::Plain;
 use corten_base::{Reply, SpaceId};
-use plain_counts::Owners;
+use plain_counts::{Owners, Tables};
 use plain_spaces::{AddressSpace, Spaces};
 use std::alloc::{AllocError, Global};
 
@@ -45,6 +46,33 @@ fn put_in(
 }
 
 impl Plain {
+    /// The reply that there are too few page tables for a space that is absent, with these cells, if there are.
+    fn lack_for(
+        &self,
+        alloc: Global,
+        new: u8,
+        cells: &AddressSpace,
+        limbo: u32,
+    ) -> Result<Option<Reply>, AllocError>
+        requires low { AreLow cells.now }
+        requires absent { map.get self.now.spaces new ≡ None }
+        requires legal { linked self.now + limbo ≤ self.now.limits.tables }
+        ensures { IfOk result (λ lack. lack ≡ tables_lack self.now (new_tables new cells.now) limbo) }
+    {
+        let mut wanted = Tables::new(alloc);
+        cells.add_tables(alloc, &mut wanted, new)?;
+        let need = wanted.len() as u64;
+        let linked = self.tables.len() as u32;
+        if need <= u64::from(self.limits.tables - linked - limbo) {
+            return Ok(None);
+        }
+        Ok(Some(Reply::NoTables {
+            linked,
+            limbo,
+            need,
+        }))
+    }
+
     /// Makes a space that is absent, with these cells, unless there are too few page tables for it.
     fn make(
         &mut self,
@@ -115,6 +143,9 @@ impl Plain {
         let Some(new) = spaces.least_absent() else {
             return Ok(Reply::NoSpaces);
         };
+        if let Some(refused) = self.lack_for(alloc, new, parent, limbo)? {
+            return Ok(refused);
+        }
         let cells = parent.copy(alloc)?;
         self.make(alloc, new, cells, limbo)
     }

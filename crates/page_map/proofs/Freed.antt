@@ -1,34 +1,34 @@
 -- What is free and what is in use; moving pages to swap and back, and the exit of a space, as loads see them.
-use Rattle.std.proofs.Common.{◌≡◌, ℕ, suc, ◌+◌, ◌-◌, ◌/◌, ◌<◌, ◌≤◌, Bool, true, false, cond, not, List, [], ◌∷◌, length, refl, sym, ap, subst, ◌∙◌, arith, ◌⊎◌, inl, inr}
+use Rattle.std.proofs.Common.{◌≡◌, ℕ, zero, suc, ◌+◌, ◌-◌, ◌/◌, ◌<◌, ◌≤◌, Bool, true, false, cond, not, List, [], ◌∷◌, length, refl, sym, ap, subst, ◌∙◌, arith, ◌⊎◌, inl, inr}
 use mathlib.Core.Bool.{true≢false}
 use Rattle.std.specs.Prelude.{Option, Some, None, is_some, nat_eq, nat_lt}
 use Rattle.std.specs.Option.{unwrap_or, option_map}
-use Rattle.std.specs.List.{filter, range_with_len, sum_by, count_by}
+use Rattle.std.specs.List.{Contains, filter, range_with_len, sum_by, count_by}
 use Rattle.std.specs.Ordering.{nat_cmp}
 use Rattle.std.specs.Cmp.{nat_cmp_total, unsigned_tied, nat_eq_equiv}
 use Rattle.std.specs.FinMap as fin
 use Rattle.std.specs.FinMap.{FinMap, get-remove, same_map, nat_cmp-IsAntisymmetric}
-use Rattle.std.proofs.lemmas.Bool.{eqb-true, eq-eqb, ltb-true, ltb-false, false_from_ne_true}
+use Rattle.std.proofs.lemmas.Bool.{cases_eq, ne_eqb, eqb-true, eq-eqb, ltb-true, ltb-false, false_from_ne_true}
 use Rattle.corten_base.specs.declared.calls.Call.TheVariants as call
 use Rattle.corten_base.specs.declared.calls.Reply.{Reply}
 use Rattle.corten_base.specs.declared.calls.Reply.TheVariants as reply
 use Rattle.page_map.specs.declared.cell.Cell.{Cell}
 use Rattle.page_map.specs.declared.cell.Cell.TheVariants.{Anon, File, Mapped, Swapped}
 use Rattle.page_map.specs.Change.{keys_in}
-use Rattle.page_map.specs.Cell.{frame_of}
+use Rattle.page_map.specs.Cell.{frame_of, slot_of}
 use Rattle.page_map.specs.Tables.{Tables}
-use Rattle.page_map.specs.State.{State, AddressSpace, cell_at, is_present, linked, carries, owners, frame_owners, slot_owners, unused, unused_frames, accounts}
+use Rattle.page_map.specs.State.{IsConsistent, State, AddressSpace, cell_at, is_present, linked, carries, owners, frame_owners, slot_owners, unused, unused_frames, accounts}
 use Rattle.page_map.specs.Access.{wants_frame}
 use Rattle.page_map.specs.Effect.{state_after, wanting_frames_of}
 use Rattle.page_map.specs.Step.{step}
-use Rattle.page_map.specs.Found.{found, ReadAlike, lacks_frames, in_use, frames_in_use, slots_in_use}
+use Rattle.page_map.specs.Found.{found, ReadAlike, lacks_frames, is_read_or_short, in_use, frames_in_use, slots_in_use}
 use Rattle.page_map.proofs.Steps.{Passed, by_step}
-use Rattle.page_map.proofs.Owners.{weight_at}
+use Rattle.page_map.proofs.Owners.{weight_at, an_owner}
 use Rattle.page_map.proofs.Unmapped.{held_of}
 use Rattle.page_map.proofs.Cells.{changed, cell_changed, present_changed}
 use Rattle.page_map.proofs.Written.{length_range}
 use Rattle.page_map.proofs.Views.{view, out_view, in_view}
-use Rattle.page_map.proofs.LoadReplies.{front, free_frames, wanted_frames, short_load, enough_load, refused_load, fronts_alike, same_loaded}
+use Rattle.page_map.proofs.LoadReplies.{front, free_frames, wanted_frames, short_load, enough_load, answered_load, read_or_short, refused_load, fronts_alike, same_loaded}
 
 -- ---- counts
 
@@ -55,6 +55,31 @@ module _ (st : State) (limbo : ℕ) where
   pub slots_add_up : ((accounts st limbo).swap_free + (accounts st limbo).swap_used ≡ st.limits.swap) × ((accounts st limbo).swap_used ≡ length (slots_in_use st))
   unfolding accounts
   slots_add_up = add_up (length (unused (slot_owners st) st.limits.swap)) (length (slots_in_use st)) st.limits.swap (free_and_used (slot_owners st) st.limits.swap)
+
+-- a number below the limit that passes is among those of the range that do
+among : (q : ℕ → Bool) (first n m : ℕ) → first ≤ m → m < first + n → q m ≡ true → Contains (filter q (range_with_len first n)) m
+among q first zero m low high is = absurd (omega (arith, low, high))
+among q first (suc n) m low high is = go (q first) refl (cases_eq m first) (λ later. among q (first + 1) n m later (omega (arith, high)) is)
+  where
+    go : (b : Bool) → q first ≡ b → (m ≡ first) ⊎ (m ≡ first → ⊥) → (first + 1 ≤ m → Contains (filter q (range_with_len (first + 1) n)) m) →
+        Contains (cond b (first ∷ filter q (range_with_len (first + 1) n)) (filter q (range_with_len (first + 1) n))) m
+    go true e (inl same) rest = (0, omega arith, sym same)
+    go false e (inl same) rest = absurd (true≢false (sym is ∙ ap q same ∙ e))
+    go true e (inr other) rest = let at = rest (omega (arith, low, other)) in (suc at.0, omega (arith, at.1), at.2)
+    go false e (inr other) rest = rest (omega (arith, low, other))
+
+carried_in_use : (number_of : Cell → Option ℕ) (st : State) (limit s p n : ℕ) (c : Cell) → n < limit → cell_at st s p ≡ Some c → number_of c ≡ Some n → Contains (in_use (owners number_of st) limit) n
+carried_in_use number_of st limit s p n c below e is =
+    among (λ n. not (nat_eq (owners number_of st n) 0)) 0 limit n (omega arith) (omega (arith, below)) (ap not (ne_eqb (owners number_of st n) 0 (some (an_owner number_of n st s p c e is))))
+  where
+    some : {a : ℕ} → 1 ≤ a → a ≡ 0 → ⊥
+    some h e = omega (arith, h, e)
+
+pub frame_in_use : (st : State) (s p n : ℕ) (c : Cell) → IsConsistent st → cell_at st s p ≡ Some c → frame_of c ≡ Some n → Contains (frames_in_use st) n
+frame_in_use st s p n c ok e is = carried_in_use frame_of st st.limits.frames s p n c (ok.frames s p n c e is) e is
+
+pub slot_in_use : (st : State) (s p n : ℕ) (c : Cell) → IsConsistent st → cell_at st s p ≡ Some c → slot_of c ≡ Some n → Contains (slots_in_use st) n
+slot_in_use st s p n c ok e is = carried_in_use slot_of st st.limits.swap s p n c (ok.slots s p n c e is) e is
 
 -- ---- pages that move
 
@@ -178,7 +203,7 @@ module _ (st : State) (thread limbo space s : ℕ) (other : nat_eq s space ≡ f
       short : free' < wanted' → ⊥
       short h = omega (arith, h, more, same, ltb-false free wanted enough)
 
-  pub exit_loaded : ((step st asking (call.Load s at len) later).0 ≡ (step next asking' (call.Load s at len) later').0) ⊎ (lacks_frames (step st asking (call.Load s at len) later).0 ≡ true)
+  pub exit_loaded : ((step st asking (call.Load s at len) later).0 ≡ (step next asking' (call.Load s at len) later').0) ⊎ ((lacks_frames (step st asking (call.Load s at len) later).0 ≡ true) × (is_read_or_short (step next asking' (call.Load s at len) later').0 ≡ true))
   exit_loaded = go (front st asking later s at len room) refl
     where
       same : ReadAlike next s st s
@@ -188,14 +213,14 @@ module _ (st : State) (thread limbo space s : ℕ) (other : nat_eq s space ≡ f
       fronts = fronts_alike next s st s same at len asking' later' asking later room' room
 
       none : front st asking later s at len room ≡ None → (b : Bool) → nat_lt (free_frames st asking later s at len room) (wanted_frames st asking later s at len room) ≡ b →
-          ((step st asking (call.Load s at len) later).0 ≡ (step next asking' (call.Load s at len) later').0) ⊎ (lacks_frames (step st asking (call.Load s at len) later).0 ≡ true)
-      none e true lt = inr (short_load st asking later s at len room e lt)
+          ((step st asking (call.Load s at len) later).0 ≡ (step next asking' (call.Load s at len) later').0) ⊎ ((lacks_frames (step st asking (call.Load s at len) later).0 ≡ true) × (is_read_or_short (step next asking' (call.Load s at len) later').0 ≡ true))
+      none e true lt = inr (short_load st asking later s at len room e lt, read_or_short _ _ (answered_load next asking' later' s at len room' (fronts ∙ e)))
       none e false lt = inl (
           enough_load st asking later s at len room e lt
           ∙ ap reply.Bytes (sym (same_loaded next s st s same at len))
           ∙ sym (enough_load next asking' later' s at len room' (fronts ∙ e) (enough_then _ _ _ _ (freer st thread limbo space s other) (ap length same_wanted) lt)))
 
       go : (o : Option Reply) → front st asking later s at len room ≡ o →
-          ((step st asking (call.Load s at len) later).0 ≡ (step next asking' (call.Load s at len) later').0) ⊎ (lacks_frames (step st asking (call.Load s at len) later).0 ≡ true)
+          ((step st asking (call.Load s at len) later).0 ≡ (step next asking' (call.Load s at len) later').0) ⊎ ((lacks_frames (step st asking (call.Load s at len) later).0 ≡ true) × (is_read_or_short (step next asking' (call.Load s at len) later').0 ≡ true))
       go (Some r) e = inl (refused_load st asking later s at len room r e ∙ sym (refused_load next asking' later' s at len room' r (fronts ∙ e)))
       go None e = none e (nat_lt (free_frames st asking later s at len room) (wanted_frames st asking later s at len room)) refl

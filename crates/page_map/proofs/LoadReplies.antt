@@ -1,5 +1,6 @@
 -- The reply of a load follows from what accesses find in its space, but for want of frames.
 use Rattle.std.proofs.Common.{◌≡◌, ℕ, ◌+◌, ◌*◌, ◌%◌, ◌<◌, ◌≤◌, Bool, true, false, cond, List, [], ◌∷◌, length, take, drop, refl, sym, ap, ◌∙◌, arith, ◌⊎◌, inl, inr}
+use mathlib.Core.Bool.{true≢false}
 use Rattle.std.specs.Prelude.{Option, Some, None, nat_lt}
 use Rattle.std.specs.Option.{option_map, option_map_or, option_or}
 use Rattle.std.specs.List.{flat_map, range_with_len}
@@ -20,13 +21,13 @@ use Rattle.page_map.specs.Access.{Access, first_page, page_count, refused_at, re
 use Rattle.page_map.specs.Effect.{answer, wanting_frames_of}
 use Rattle.page_map.specs.Step.{step, refusal, first_refusal, refused_unless, arguments, no_space, pages, no_tables, no_frames, no_swap}
 use Rattle.page_map.specs.Cell.{contents}
-use Rattle.page_map.specs.Found.{Found, found, ReadAlike, lacks_frames, AnsweredAlike, LoadedAlike}
+use Rattle.page_map.specs.Found.{Found, found, ReadAlike, lacks_frames, is_read_or_short, AnsweredAlike, LoadedAlike}
 use Rattle.page_map.proofs.Evaluate.{difference_empty}
 use Rattle.page_map.proofs.Steps.{refused, accepted}
 use Rattle.page_map.proofs.Places.{place_total, place_exact}
 use Rattle.page_map.proofs.Views.{view}
 
-need_none : (tables : Tables) → need [] tables ≡ 0
+pub need_none : (tables : Tables) → need [] tables ≡ 0
 need_none tables = ap set.len (difference_empty place_total place_exact tables) ∙ len-empty place_cmp
 
 where_false : (b : Bool) (r : Reply) → (b ≡ true → ⊥) → cond b (Some r) None ≡ None
@@ -97,6 +98,32 @@ module _ (st : State) (thread limbo space at len : ℕ) (room : linked st + limb
       go true e = inl (short_load is e)
       go false e = inr (enough_load is e)
 
+-- where no page refuses it, a load has its bytes or lacks frames
+pub read_or_short : (r : Reply) (xs : List ℕ) → (lacks_frames r ≡ true) ⊎ (r ≡ reply.Bytes xs) → is_read_or_short r ≡ true
+read_or_short r xs (inr e) = ap is_read_or_short e
+read_or_short r xs (inl l) = short r l
+  where
+    short : (r : Reply) → lacks_frames r ≡ true → is_read_or_short r ≡ true
+    short (reply.NoFrames free need) e = refl
+    short (reply.Bytes bytes) e = refl
+    short reply.Ok e = absurd (true≢false (sym e))
+    short (reply.At at) e = absurd (true≢false (sym e))
+    short (reply.Space space) e = absurd (true≢false (sym e))
+    short (reply.Moved pages) e = absurd (true≢false (sym e))
+    short reply.Done e = absurd (true≢false (sym e))
+    short (reply.Undone k w) e = absurd (true≢false (sym e))
+    short reply.Einval e = absurd (true≢false (sym e))
+    short reply.NoSpace e = absurd (true≢false (sym e))
+    short reply.NoSpaces e = absurd (true≢false (sym e))
+    short reply.NoRoom e = absurd (true≢false (sym e))
+    short (reply.Exists at) e = absurd (true≢false (sym e))
+    short (reply.Hole at) e = absurd (true≢false (sym e))
+    short (reply.Segv at) e = absurd (true≢false (sym e))
+    short (reply.Denied at) e = absurd (true≢false (sym e))
+    short (reply.Bus at) e = absurd (true≢false (sym e))
+    short (reply.NoTables linked limbo need) e = absurd (true≢false (sym e))
+    short (reply.NoSwap free need) e = absurd (true≢false (sym e))
+
 -- ---- what a load finds
 
 refused_found : Bool → ℕ → Option Found → Option Reply
@@ -155,14 +182,14 @@ module _ (st : State) (space : ℕ) (other : State) (twin : ℕ) (same : ReadAli
       fronts : front st thread limbo space at len room ≡ front other thread' limbo' twin at len room'
       fronts = fronts_alike thread limbo thread' limbo' room room'
 
-      both : {a b x y : Reply} → x ≡ y → (lacks_frames a ≡ true) ⊎ (a ≡ x) → (lacks_frames b ≡ true) ⊎ (b ≡ y) → AnsweredAlike a b
-      both e (inl l) h = inr (inl l)
-      both e (inr x) (inl l) = inr (inr l)
-      both e (inr x) (inr y) = inl (x ∙ e ∙ sym y)
+      both : {a b : Reply} (xs ys : List ℕ) → xs ≡ ys → (lacks_frames a ≡ true) ⊎ (a ≡ reply.Bytes xs) → (lacks_frames b ≡ true) ⊎ (b ≡ reply.Bytes ys) → AnsweredAlike a b
+      both {a = a} {b = b} xs ys e (inl l) h = inr (inl (l, read_or_short b ys h))
+      both {a = a} {b = b} xs ys e (inr x) (inl l) = inr (inr (read_or_short a xs (inr x), l))
+      both xs ys e (inr x) (inr y) = inl (x ∙ ap reply.Bytes e ∙ sym y)
 
       go : (o : Option Reply) → front st thread limbo space at len room ≡ o → AnsweredAlike (step st thread (call.Load space at len) limbo).0 (step other thread' (call.Load twin at len) limbo').0
       go (Some r) e = inl (refused_load st thread limbo space at len room r e ∙ sym (refused_load other thread' limbo' twin at len room' r (sym fronts ∙ e)))
-      go None e = both (ap reply.Bytes same_loaded) (answered_load st thread limbo space at len room e) (answered_load other thread' limbo' twin at len room' (sym fronts ∙ e))
+      go None e = both _ _ same_loaded (answered_load st thread limbo space at len room e) (answered_load other thread' limbo' twin at len room' (sym fronts ∙ e))
 
 pub loads_alike : (st : State) (space : ℕ) (other : State) (twin : ℕ) → ReadAlike st space other twin → LoadedAlike st space other twin
 loads_alike st space other twin same at len thread limbo thread' limbo' room room' = alike st space other twin same at len thread limbo thread' limbo' room room'

@@ -1,7 +1,8 @@
 -- What accesses find in a space, whatever the numbers of its frames and swap slots.
 --     Found, found_at      what stands at a page for an access;  at a page of a space
 --     ReadAlike      whether accesses find the same in two spaces, each of a state
---     lacks_frames, AnsweredAlike      whether a reply says that too few frames are unused;  whether two replies are the same, but for that
+--     lacks_frames, is_read_or_short      whether a reply says that too few frames are unused;  whether it has bytes, or says that
+--     AnsweredAlike      whether two replies of loads are the same, but that one may lack frames
 --     LoadedAlike      whether loads get the same replies of two spaces, each of a state, but for that
 --     is_on, calls_on      whether an answered call names a space;  those of a list that do
 --     removes      whether an answered call is an `exit` of a space
@@ -46,8 +47,16 @@ abbrev pub lacks_frames : Reply → Bool
 lacks_frames (reply.NoFrames free need) = true
 lacks_frames _ = false
 
+-- whether a load was refused for nothing but frames
+abbrev pub is_read_or_short : Reply → Bool
+is_read_or_short (reply.Bytes bytes) = true
+is_read_or_short (reply.NoFrames free need) = true
+is_read_or_short _ = false
+
+-- the same, or one lacks frames where the other has its bytes, or lacks frames too
 abbrev pub AnsweredAlike : Reply → Reply → Type 0
-AnsweredAlike a b = (a ≡ b) ⊎ ((lacks_frames a ≡ true) ⊎ (lacks_frames b ≡ true))
+AnsweredAlike a b =
+    (a ≡ b) ⊎ (((lacks_frames a ≡ true) × (is_read_or_short b ≡ true)) ⊎ ((is_read_or_short a ≡ true) × (lacks_frames b ≡ true)))
 
 -- each load gets the same reply of both, whatever threads ask and however many tables are in limbo
 abbrev pub LoadedAlike : State → ℕ → State → ℕ → Type 0

@@ -1,16 +1,18 @@
 //! Laws of spaces that are kept apart, and of what is free, each the contract of a function that does nothing.
 ghost use Rattle.std.specs.Prelude.{◌≡◌, ◌≢◌, ℕ, ◌+◌, ◌<◌, ◌≤◌, ◌⊎◌, true, false, Some, List, length};
-ghost use Rattle.std.specs.List.{All};
+ghost use Rattle.std.specs.List.{All, Contains};
 ghost use Rattle.corten_base.specs.declared.calls.Call.{Call};
 ghost use Rattle.corten_base.specs.declared.calls.Call.TheVariants as call;
 ghost use Rattle.corten_base.specs.declared.calls.Entry.{Entry};
 ghost use Rattle.corten_base.specs.declared.calls.Reply.TheVariants as reply;
+ghost use Rattle.page_map.specs.declared.cell.Cell.{Cell};
+ghost use Rattle.page_map.specs.Cell.{frame_of, slot_of};
 ghost use Rattle.page_map.specs.State.{State, IsConsistent, is_present, cell_at, linked, accounts};
 ghost use Rattle.page_map.specs.Effect.{space_of};
 ghost use Rattle.page_map.specs.History.{IsLegal, after};
 ghost use Rattle.page_map.specs.Memory.{bytes_at};
 ghost use Rattle.page_map.specs.Step.{step};
-ghost use Rattle.page_map.specs.Found.{ReadAlike, LoadedAlike, OwnLeaveBytes, lacks_frames, calls_on, removes, frames_in_use, slots_in_use};
+ghost use Rattle.page_map.specs.Found.{ReadAlike, LoadedAlike, OwnLeaveBytes, lacks_frames, is_read_or_short, calls_on, removes, frames_in_use, slots_in_use};
 
 /// Loads get the same replies of two spaces in which accesses find the same, but that one may lack frames.
 pub fn a_load_is_answered_by_what_is_found()
@@ -77,20 +79,25 @@ pub fn moves_to_swap_and_back_are_not_found()
 {}
 
 /// `exit` of one space changes nothing that an access finds in another. A load there gets the reply that it got before, or
-/// it lacked frames before.
+/// it lacked frames before, and now has its bytes or lacks them still.
 pub fn an_exit_is_not_found_elsewhere()
     ensures found { (st : State) (thread limbo space other : ℕ) → other ≢ space → ReadAlike (step st thread (call.Exit space) limbo).1 other st other }
     ensures loaded { (st : State) (thread limbo space other at len asking later asking' later' : ℕ) → other ≢ space
         → linked st + later ≤ st.limits.tables
         → linked (step st thread (call.Exit space) limbo).1 + later' ≤ (step st thread (call.Exit space) limbo).1.limits.tables
         → ((step st asking (call.Load other at len) later).0 ≡ (step (step st thread (call.Exit space) limbo).1 asking' (call.Load other at len) later').0)
-        ⊎ (lacks_frames (step st asking (call.Load other at len) later).0 ≡ true) }
+        ⊎ ((lacks_frames (step st asking (call.Load other at len) later).0 ≡ true)
+        × (is_read_or_short (step (step st thread (call.Exit space) limbo).1 asking' (call.Load other at len) later').0 ≡ true)) }
 {}
 
-/// Frames that are free and frames that pages carry are all frames, and so are swap slots.
+/// Frames that are free and frames that pages have are all frames, and each frame that a page has is counted; so it is with swap slots.
 pub fn numbers_are_free_or_in_use()
     ensures frames { (st : State) (limbo : ℕ) → (accounts st limbo).frames_free + (accounts st limbo).frames_mapped ≡ st.limits.frames }
     ensures mapped { (st : State) (limbo : ℕ) → (accounts st limbo).frames_mapped ≡ length (frames_in_use st) }
     ensures slots { (st : State) (limbo : ℕ) → (accounts st limbo).swap_free + (accounts st limbo).swap_used ≡ st.limits.swap }
     ensures used { (st : State) (limbo : ℕ) → (accounts st limbo).swap_used ≡ length (slots_in_use st) }
+    ensures each_frame { (st : State) (space page frame : ℕ) (c : Cell) → IsConsistent st → cell_at st space page ≡ Some c → frame_of c ≡ Some frame
+        → Contains (frames_in_use st) frame }
+    ensures each_slot { (st : State) (space page slot : ℕ) (c : Cell) → IsConsistent st → cell_at st space page ≡ Some c → slot_of c ≡ Some slot
+        → Contains (slots_in_use st) slot }
 {}

@@ -1,8 +1,8 @@
 -- The tables of a new space, page by page.
-use Rattle.std.proofs.Common.{◌≡◌, ℕ, ◌+◌, ◌-◌, ◌^◌, ◌<◌, ◌≤◌, Bool, true, false, not, List, [], ◌∷◌, ◌++◌, refl, sym, ap, ◌∙◌, arith}
+use Rattle.std.proofs.Common.{◌≡◌, ℕ, zero, suc, ◌*◌, ◌/◌, ◌+◌, ◌-◌, ◌^◌, ◌<◌, ◌≤◌, Bool, true, false, not, List, [], ◌∷◌, ◌++◌, refl, sym, ap, ◌∙◌, arith}
 use mathlib.Core.Bool.{true≢false}
 use Rattle.std.specs.Prelude.{Option, Some, None, IsSome, cond, ◌&&◌, ◌||◌, map, nat_eq}
-use Rattle.std.specs.List.{filter, list_any, AllByRecursion}
+use Rattle.std.specs.List.{filter, list_any, range_with_len, AllByRecursion}
 use Rattle.std.specs.Ordering.{nat_cmp, eq_by_cmp}
 use Rattle.std.specs.Cmp.{nat_eq_equiv}
 use Rattle.std.proofs.lemmas.Bool.{and_from, le-leb, lt-ltb, or_left, or_right}
@@ -12,7 +12,7 @@ use Rattle.std.specs.FinSet as set
 use Rattle.std.specs.FinSet.{same_set, contains-union, contains-retain, contains-from_list}
 use Rattle.table_place.specs.declared.Place.{Place}
 use Rattle.table_place.specs.Range.{within}
-use Rattle.table_place.specs.Place.{place_cmp, root, above}
+use Rattle.table_place.specs.Place.{place_cmp, root, above, above_in_level}
 use Rattle.table_place.proofs.Tables.{above_parts}
 use Rattle.page_map.specs.declared.cell.Cell.{Cell}
 use Rattle.page_map.specs.Change.{keys_in}
@@ -22,10 +22,11 @@ use Rattle.page_map.proofs.Places.{place_total, place_exact}
 use Rattle.page_map.proofs.Evaluate.{alike, tied, union_empty, union_insert}
 use Rattle.page_map.proofs.Above.{any_append, contains_above}
 use Rattle.page_map.proofs.Few.{each_entry}
+use Rattle.page_map.proofs.Keys.{chosen}
 use Rattle.page_map.proofs.Growth.{is_wanted}
 use Rattle.plain_counts.specs.Levels.{is_elsewhere}
 use Rattle.plain_spaces.specs.Copies.{AreLow, IsNewTo, tables_above, new_tables}
-use Rattle.plain_spaces.proofs.Keys.{IsNext, keys_next, keys_here, keys_none}
+use Rattle.plain_spaces.proofs.Keys.{IsNext, keys_front, keys_next, keys_here, keys_none}
 
 -- one list and then another
 pub union_append : (s : Tables) (xs ys : List Place) → set.union s (set.from_list (xs ++ ys)) ≡ set.union (set.union s (set.from_list xs)) (set.from_list ys)
@@ -96,6 +97,83 @@ module _ (cells : AddressSpace) (space : ℕ) where
   above_none next end s low none =
       ap (λ ks. set.union s (set.from_list (tables_above space ks))) (keys_none (λ _. true) cells next end low none)
       ∙ union_empty place_total place_exact s
+
+-- two pages in the span of one table of the first level
+module _ (space q page : ℕ) (same : q / 512 ≡ page / 512) where
+  in_level : (level : ℕ) → q / 512 ^ level ≡ page / 512 ^ level → above_in_level space q 1 level ≡ above_in_level space page 1 level
+  in_level level e = λ i. map (λ prefix. record { space = space; level = level; prefix = prefix }) (range_with_len (e i) ((ap (λ n. n / 512 ^ level) (less q) ∙ e ∙ sym (ap (λ n. n / 512 ^ level) (less page))) i + 1 - e i))
+    where
+      less : (n : ℕ) → n + 1 - 1 ≡ n
+      less n = omega arith
+
+  second : q / 262144 ≡ page / 262144
+  second = omega (arith, same)
+
+  third : q / 134217728 ≡ page / 134217728
+  third = omega (arith, second)
+
+  fourth : q / 68719476736 ≡ page / 68719476736
+  fourth = omega (arith, third)
+
+  pub same_above : above 4 space q 1 ≡ above 4 space page 1
+  unfolding above
+  same_above = λ i. in_level 1 same i ++ (in_level 2 second i ++ (in_level 3 third i ++ (in_level 4 fourth i ++ [])))
+
+-- pages whose tables are there
+module _ (cells : AddressSpace) (space : ℕ) (s : Tables) (page : ℕ) (there : set.union s (set.from_list (above 4 space page 1)) ≡ s) where
+  absorbed : (low k n : ℕ) → ((q : ℕ) → low ≤ q → q < low + k → q / 512 ≡ page / 512) →
+      set.union s (set.from_list (tables_above space (keys_in cells low (k + n) (λ _. true)))) ≡ set.union s (set.from_list (tables_above space (keys_in cells (low + k) n (λ _. true))))
+  unfolding chosen
+  absorbed low zero n same = λ i. set.union s (set.from_list (tables_above space (keys_in cells (sym (at low) i) (none n i) (λ _. true))))
+    where
+      at : (a : ℕ) → a + 0 ≡ a
+      at a = omega arith
+
+      none : (a : ℕ) → 0 + a ≡ a
+      none a = omega arith
+  absorbed low (suc k) n same =
+      ap (λ j. set.union s (set.from_list (tables_above space (keys_in cells low j (λ _. true))))) (one k n)
+      ∙ ap (λ ks. set.union s (set.from_list (tables_above space ks))) (keys_front (λ _. true) cells low (k + n))
+      ∙ first (get cells low)
+      ∙ absorbed (low + 1) k n (λ q a b. same q (omega (arith, a)) (omega (arith, b)))
+      ∙ ap (λ j. set.union s (set.from_list (tables_above space (keys_in cells j n (λ _. true))))) (next low k)
+    where
+      one : (a b : ℕ) → suc a + b ≡ suc (a + b)
+      one a b = omega arith
+
+      next : (a b : ℕ) → a + 1 + b ≡ a + suc b
+      next a b = omega arith
+
+      first : (o : Option Cell) → set.union s (set.from_list (tables_above space (chosen (λ _. true) low o ++ keys_in cells (low + 1) (k + n) (λ _. true))))
+          ≡ set.union s (set.from_list (tables_above space (keys_in cells (low + 1) (k + n) (λ _. true))))
+      first None = refl
+      first (Some c) =
+          union_append s (above 4 space low 1) (tables_above space (keys_in cells (low + 1) (k + n) (λ _. true)))
+          ∙ ap (λ t. set.union t (set.from_list (tables_above space (keys_in cells (low + 1) (k + n) (λ _. true)))))
+          (ap (λ ps. set.union s (set.from_list ps)) (same_above space low page (same low (omega arith) (omega arith))) ∙ there)
+
+  -- up to the end of the table's span
+  pub above_span : (end : ℕ) → page < end → (page / 512 + 1) * 512 ≤ end →
+      set.union s (set.from_list (tables_above space (keys_in cells (page + 1) (end - (page + 1)) (λ _. true))))
+      ≡ set.union s (set.from_list (tables_above space (keys_in cells ((page / 512 + 1) * 512) (end - (page / 512 + 1) * 512) (λ _. true))))
+  above_span end low high =
+      let count : end - (page + 1) ≡ ((page / 512 + 1) * 512 - (page + 1)) + (end - (page / 512 + 1) * 512) = omega (arith, high) in
+      let at : page + 1 + ((page / 512 + 1) * 512 - (page + 1)) ≡ (page / 512 + 1) * 512 = omega arith in
+      ap (λ j. set.union s (set.from_list (tables_above space (keys_in cells (page + 1) j (λ _. true))))) count
+      ∙ absorbed (page + 1) ((page / 512 + 1) * 512 - (page + 1)) (end - (page / 512 + 1) * 512) (λ q a b. omega (arith, a, b))
+      ∙ ap (λ j. set.union s (set.from_list (tables_above space (keys_in cells j (end - (page / 512 + 1) * 512) (λ _. true))))) at
+
+-- what was put in is there
+pub put_twice : (s : Tables) (xs : List Place) → set.union (set.union s (set.from_list xs)) (set.from_list xs) ≡ set.union s (set.from_list xs)
+put_twice s xs = same_set place_total place_exact _ _ (λ q.
+    contains-union place_total (set.union s (set.from_list xs)) (set.from_list xs) q
+    ∙ ap (λ b. b || set.contains (set.from_list {R = place_cmp} xs) q) (contains-union place_total s (set.from_list xs) q)
+    ∙ twice (set.contains s q) (set.contains (set.from_list {R = place_cmp} xs) q) ∙ sym (contains-union place_total s (set.from_list xs) q))
+  where
+    twice : (a b : Bool) → ((a || b) || b) ≡ (a || b)
+    twice true b = refl
+    twice false true = refl
+    twice false false = refl
 
 -- all pages
 pub all_keys : (cells : AddressSpace) (end : ℕ) → ((q : ℕ) (c : Cell) → get cells q ≡ Some c → q < end) → keys_in cells 0 (end - 0) (λ _. true) ≡ fin.keys cells

@@ -17,6 +17,9 @@ use table_place::Place;
 /// The number of a page that stands after all user pages.
 const END: u64 = 1 << 35;
 
+/// The pages in the span of a table of the first level.
+const TABLE_PAGES: u64 = 512;
+
 /// The same cell, with bytes of its own.
 fn copy_of(alloc: Global, cell: &Cell) -> Result<Cell, AllocError>
     ensures { IfOk result (λ copy. copy ≡ cell.now) }
@@ -112,7 +115,7 @@ impl AddressSpace {
         }
     }
 
-    /// Puts in the tables above the pages, as those of a space.
+    /// Puts in the tables above the pages, as those of a space. One page is looked at in each span of a table.
     fn add_above(&self, alloc: Global, tables: &mut Tables, space: u8) -> Result<(), AllocError>
         requires { AreLow self.now }
         ensures ok { OnOk result (tables.new ≡ set.union tables.old (set.from_list (tables_above space (map.keys self.now)))) }
@@ -121,7 +124,7 @@ impl AddressSpace {
         let mut next = 0;
         while let Some(page) = self.next(next, END) {
             tables.add_above(alloc, space, page, 1)?;
-            next = page + 1;
+            next = (page / TABLE_PAGES + 1) * TABLE_PAGES;
         }
         Ok(())
     }

@@ -115,7 +115,7 @@ module _ {R B E : Type 0} (M : Meaning R B E) where
           epoch = epochs_stay u.number ∙ old.epoch;
           held = old.held;
           rows = λ x i. let o = old.rows x i in let z = others_show x.row (not_part row_part u.rows u.core.held r old.held unheld x i) in
-              record { there = o.there; shown = z.words ∙ o.shown; place = z.place ∙ o.place; agrees = o.agrees };
+              record { there = o.there; shown = z.words ∙ o.shown; place = z.place ∙ o.place; generation = λ g e. z.generation ∙ o.generation g e; agrees = o.agrees };
           granted = old.granted;
           hand = λ x i. let o = old.hand x i in record { there = o.there; shown = (others_show x.row (hand_other x i)).generation ∙ o.shown; below = o.below; fresh = o.fresh };
           vacant = old.vacant;

@@ -14,6 +14,7 @@ use Rattle.row_table.specs.Plan.{Meaning}
 use Rattle.row_table.specs.Rows.{lock_of, generation_of}
 use Rattle.row_table.specs.Rule.{Homes, Seat, Table, levels_of, view, IsOne, core_of, Contents, Knows, Holds}
 use Rattle.row_table.specs.Crossings.{entered, left, CrossTells, EpochTells}
+use Rattle.row_table.proofs.Known.{right_now}
 use Rattle.row_table.proofs.Shown.{ShowsSame, shows_same}
 use Rattle.row_table.proofs.Frames.{RowHome, words_after, moved, unchanged, home_of, home_moves}
 
@@ -32,7 +33,7 @@ module _ {R B E : Type 0} (M : Meaning R B E) where
       layout = old.layout;
       epoch = is;
       held = old.held;
-      rows = λ y i. let o = old.rows y i in let z = rows_show y.row o.there in record { there = o.there; shown = z.words ∙ o.shown; place = z.place ∙ o.place; agrees = o.agrees };
+      rows = λ y i. let o = old.rows y i in let z = rows_show y.row o.there in record { there = o.there; shown = z.words ∙ o.shown; place = z.place ∙ o.place; generation = λ g e. z.generation ∙ o.generation g e; agrees = o.agrees };
       granted = old.granted;
       hand = λ y i. let o = old.hand y i in record { there = o.there; shown = (rows_show y.row o.there).generation ∙ o.shown; below = o.below; fresh = o.fresh };
       vacant = old.vacant;
@@ -104,13 +105,13 @@ module _ {R B E : Type 0} (M : Meaning R B E) where
       → Allows (Holds M k first) slots id m (epoch_at k.rows n) (λ y. (y + 1) % 2 ^ 64) (CrossTells entered m)
   enters k first slots id m n one outside low = crosses k first slots id m n (λ p. Enter p) entered one (λ p. refl) (λ p. refl) (λ p y. refl) (λ p free. refl) (λ p limbo. refl) refl (λ p y. refl)
       (λ s h is. (outside, subst (λ (y : ℕ). y < 2 ^ 62) (sym is) low))
-      (λ b ws is old. record { there = old.there; layout = old.layout; epoch = old.epoch; held = old.held; rows = λ y i. let o = old.rows y i in record { there = o.there; shown = o.shown; place = o.place; agrees = o.agrees }; granted = old.granted; hand = old.hand; vacant = old.vacant; placed = old.placed; found = old.found; origin = old.origin; seen = old.seen; mine = old.mine })
+      (λ b ws is old. record { there = old.there; layout = old.layout; epoch = old.epoch; held = old.held; rows = λ y i. let o = old.rows y i in record { there = o.there; shown = o.shown; place = o.place; generation = o.generation; agrees = o.agrees }; granted = old.granted; hand = old.hand; vacant = old.vacant; placed = old.placed; found = old.found; origin = old.origin; seen = old.seen; mine = old.mine })
 
   pub leaves : (k : Layout) (first : B) (slots id : ℕ) (m : Seat R B E) (n : ℕ) → IsOne n m → IsSome (view m).core.stand
       → Allows (Holds M k first) slots id m (epoch_at k.rows n) (λ y. (y + 1) % 2 ^ 64) (CrossTells left m)
   leaves k first slots id m n one inside = crosses k first slots id m n (λ p. Leave p) left one (λ p. refl) (λ p. refl) (λ p y. refl) (λ p free. refl) (λ p limbo. refl) refl (λ p y. refl)
       (λ s h is. inside)
-      (λ b ws is old. record { there = old.there; layout = old.layout; epoch = old.epoch; held = old.held; rows = λ y i. let o = old.rows y i in record { there = o.there; shown = o.shown; place = o.place; agrees = o.agrees }; granted = old.granted; hand = old.hand; vacant = old.vacant; placed = old.placed; found = old.found; origin = old.origin; seen = old.seen; mine = old.mine })
+      (λ b ws is old. record { there = old.there; layout = old.layout; epoch = old.epoch; held = old.held; rows = λ y i. let o = old.rows y i in record { there = o.there; shown = o.shown; place = o.place; generation = o.generation; agrees = o.agrees }; granted = old.granted; hand = old.hand; vacant = old.vacant; placed = old.placed; found = old.found; origin = old.origin; seen = old.seen; mine = old.mine })
 
   -- a load of the own epoch word
   pub reads_epoch : (k : Layout) (first : B) (slots id : ℕ) (m : Seat R B E) (n : ℕ) → IsOne n m → Allows (Holds M k first) slots id m (epoch_at k.rows n) (λ y. y) (EpochTells m)
@@ -124,7 +125,7 @@ module _ {R B E : Type 0} (M : Meaning R B E) where
         keeps,
         tt,
         unchanged M k first s id (epoch_at k.rows n) (get_or s.words (epoch_at k.rows n) 0) m.0 h me refl,
-        λ p _. (is, (let low = h.good.stands.bounded v.number know.there in let e = know.epoch in omega arith), refl),
+        λ p _. (is, (let low = h.good.stands.bounded v.number know.there in let e = know.epoch in omega arith), refl, right_now M k first s h v mine),
       )
 
   -- the same where the place is known by an equation

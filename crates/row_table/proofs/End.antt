@@ -198,6 +198,7 @@ module _ {R B E : Type 0} where
       good_end = record {
         core = c;
         good = h.good;
+        levels = refl;
         rows = refl;
         count = refl;
         words_same = refl;

@@ -1,5 +1,5 @@
 -- What the rule says of a row that a pass looks at or grabs, and which rows a pass keeps as there.
-use Rattle.std.proofs.Common.{◌≡◌, ◌≢◌, ℕ, ◌<◌, true, List, get_or, sym, ap, ◌∙◌, subst, inl, inr, ⊎_elim, arith}
+use Rattle.std.proofs.Common.{◌≡◌, ◌≢◌, ℕ, ◌%◌, ◌<◌, ◌≤◌, true, List, get_or, sym, ap, ◌∙◌, subst, inl, inr, ⊎_elim, arith}
 use Rattle.std.specs.List.{Contains}
 use Rattle.std.proofs.lemmas.Bool.{cases_lt}
 use Rattle.std.proofs.lemmas.List.{get_or_past}
@@ -7,21 +7,22 @@ use mathlib.Core.Option.{some}
 use mathlib.Core.Logic.{dite}
 use native.Mathlib.Decide.{ℕ_discrete}
 use lib.ListN.{get_elem?}
-use Rattle.table_place.specs.Place.{entry_place}
+use Rattle.table_place.specs.Place.{entry_place, is_place}
 use Rattle.walk_core.specs.declared.pass.PassCore.{PassCore}
-use Rattle.walk_core.specs.Words.{entry_at, lock_at, is_link, link_row, held_by, stale}
+use Rattle.walk_core.specs.Words.{entry_at, lock_at, is_link, link_row, link_generation, held_by, stale}
 use Rattle.walk_core.specs.Lists.{Has, times}
 use Rattle.walk_core.specs.Core.{Core, pass_at, idle, IsLinked}
-use Rattle.walk_core.specs.Good.{Good, LockSays, says_free, says_held, says_stale}
+use Rattle.walk_core.specs.Good.{inside, Good, LockSays, says_free, says_held, says_stale}
 use Rattle.walk_core.proofs.RowLists.{times-nil}
-use Rattle.walk_core.proofs.Tree.{names_there, names_linked}
+use Rattle.walk_core.proofs.Facts.{root_linked}
+use Rattle.walk_core.proofs.Tree.{names_there, names_linked, names_no_root}
 use Rattle.row_layout.specs.declared.places.Layout.{Layout}
 use Rattle.row_table.specs.declared.view.PassView.{PassView}
 use Rattle.row_table.specs.declared.view.HeldRow.{HeldRow}
 use Rattle.row_table.specs.Plan.{Meaning}
-use Rattle.row_table.specs.Rows.{row_words, place_at}
+use Rattle.row_table.specs.Rows.{row_words, place_at, generation_of}
 use Rattle.row_table.specs.Rule.{Table, levels_of, core_of, Holds}
-use Rattle.row_table.specs.Known.{LinksRow, IsKnownPlace, IsHolder, IsLoose, LinksBelow}
+use Rattle.row_table.specs.Known.{LinksRow, IsKnownPlace, IsKnownGeneration, IsHolder, IsLoose, LinksBelow, LinksLead, IsRight}
 use Rattle.row_table.proofs.Shown.{word_at}
 use Rattle.row_table.proofs.Views.{pass_is, has_held}
 
@@ -48,6 +49,16 @@ module _ {R B E : Type 0} (M : Meaning R B E) (k : Layout) (first : B) (s : Tabl
             ap (place_at s.words) (sym (ap link_row at ∙ l.to_row)) ∙ (t.place ∙ (λ j. entry_place (levels_of (sym know.layout j)) (o.place j) l.index));
       }
 
+  pub generation_known : (r : ℕ) → IsKnownGeneration v r (generation_of s.words r)
+  generation_known r =
+      let know = h.knows v.number v mine in record {
+        of_stand = λ t is same. let stand = h.good.stands.stand v.number t (ap (λ (u : PassCore). u.stand) (pass_is M k first s h v mine) ∙ is) in ap (generation_of s.words) (sym same) ∙ stand.generation;
+        of_held = λ x j same g is. ap (generation_of s.words) (sym same) ∙ (know.rows x j).generation g is;
+        of_entry = λ l. let o = know.rows l.linker l.held in let at = entry_is l.linker l.held l.index l.inside in
+            let t = h.good.links.links_true l.linker.row l.index o.there l.inside (ap is_link at ∙ l.link) in
+            ap (generation_of s.words) (sym (ap link_row at ∙ l.to_row)) ∙ (t.generation ∙ ap link_generation at);
+      }
+
   -- the rows that the entries of a row link are there
   pub links_below : (r : ℕ) → r < k.rows → LinksBelow v.layout.rows (row_words s.words r)
   links_below r less i inside link =
@@ -59,6 +70,29 @@ module _ {R B E : Type 0} (M : Meaning R B E) (k : Layout) (first : B) (s : Tabl
   link_below r i less inside link = let know = h.knows v.number v mine in
       subst (λ (y : Layout). link_row (get_or s.words (entry_at r i) 0) < y.rows) (sym know.layout) (names_there h.good.links r i less inside link)
 
+  -- a link leads to the position of a table
+  pub link_leads : (r i : ℕ) → r < k.rows → i < 512 → is_link (get_or s.words (entry_at r i) 0) ≡ true → is_place (levels_of v.layout) (entry_place (levels_of v.layout) (place_at s.words r) i) ≡ true
+  link_leads r i less inside link =
+      let q : ℕ = link_row (get_or s.words (entry_at r i) 0) in
+      let l = names_linked h.good.links r i less inside link in
+      let t = h.good.links.links_true r i less inside link in
+      let there = h.good.links.places q (names_no_root h.good.links r i less inside link) l in
+      subst (λ (y : Layout). is_place (levels_of y) (entry_place (levels_of y) (place_at s.words r) i) ≡ true) (sym (h.knows v.number v mine).layout) (ap (is_place (levels_of k)) (sym t.place) ∙ there)
+
+  pub links_lead : (r : ℕ) → r < k.rows → LinksLead (levels_of v.layout) (place_at s.words r) (row_words s.words r)
+  links_lead r less i inside link = link_leads r i less inside (ap is_link (sym (word_at s.words r i inside)) ∙ link)
+
+  pub right_now : IsRight v
+  right_now =
+      let know = h.knows v.number v mine in let is = pass_is M k first s h v mine in record {
+        number = subst (λ (y : Layout). v.number < y.passes) (sym know.layout) know.there;
+        rows = know.held;
+        once = λ r. subst (λ (u : PassCore). times r u.held ≤ 1) is (h.good.locks.rows.once v.number r);
+        hand = know.granted;
+        parity = ap (λ (e : ℕ). e % 2) (sym know.epoch) ∙ (h.good.stands.parity v.number know.there ∙ ap (λ (u : PassCore). inside u.stand) is);
+        bounded = (let low = h.good.stands.bounded v.number know.there in let e = know.epoch in omega arith);
+      }
+
   -- a row that a held row links is in the tree
   linked_row : (r : ℕ) → LinksRow v r → IsLinked c r
   linked_row r l = let o = (h.knows v.number v mine).rows l.linker l.held in let at = entry_is l.linker l.held l.index l.inside in
@@ -68,6 +102,7 @@ module _ {R B E : Type 0} (M : Meaning R B E) (k : Layout) (first : B) (s : Tabl
   loose_row r less shown =
       let few = h.good.sizes.bounds.count_high in record {
         not_held = λ has. let on = has_held M k first s h v mine r has in let one = (h.good.locks.rows.held v.number r on).shown in let there = held_below c v.number r h.good on in omega arith;
+        not_root = λ z. says (subst (IsLinked c) (sym z) (root_linked h.good)) (get_or s.words (lock_at r) 0) shown (h.good.locks.rows.each r less);
         unlinked = λ l. says (linked_row r l) (get_or s.words (lock_at r) 0) shown (h.good.locks.rows.each r less);
       }
     where

@@ -148,12 +148,14 @@ module _ {R B E : Type 0} (M : Meaning R B E) where
           there = old.there;
           shown = words_here h e old.shown;
           place = place_stays h.row ∙ old.place;
+          generation = λ g e. generation_stays h.row ∙ old.generation g e;
           agrees = λ z. let a = old.agrees (out z) in record { found = a.found; given = λ g c is. a.given g c (sym last ∙ is) };
         }))
         (λ ne. subst (IsHeldRow M k us b w) (sym (is_other h ne)) (record {
           there = old.there;
           shown = (shows h.row ne).words ∙ old.shown;
           place = place_stays h.row ∙ old.place;
+          generation = λ g e. generation_stays h.row ∙ old.generation g e;
           agrees = λ z. let a = old.agrees (out z) in record { found = a.found; given = λ g c is. a.given g c (sym last ∙ is) };
         }))
 
@@ -300,6 +302,7 @@ module _ {R B E : Type 0} (M : Meaning R B E) where
             there = o.there;
             shown = (shows k first s.words r i x there inside (near_word i inside) y.row (λ f. child_not_here (sym e ∙ f))).words ∙ o.shown;
             place = place_stays k first s.words r i x there inside (near_word i inside) y.row ∙ o.place;
+            generation = λ g e. generation_stays k first s.words r i x there inside (near_word i inside) y.row ∙ o.generation g e;
             agrees = λ _. record {
               found = λ z u f. absurd (cc);
               given = λ vacant a last words u agrees. kept_below vacant a last y.place (under_same y.place (entry_place (levels_of k) linker.place i) (place_of_child y j e)
@@ -311,12 +314,14 @@ module _ {R B E : Type 0} (M : Meaning R B E) where
             there = o.there;
             shown = words_here k first s.words r i x there inside (near_word i inside) y e o.shown;
             place = place_stays k first s.words r i x there inside (near_word i inside) y.row ∙ o.place;
+            generation = λ g e. generation_stays k first s.words r i x there inside (near_word i inside) y.row ∙ o.generation g e;
             agrees = λ z. let a = o.agrees (still_out y.row nc z) in record { found = a.found; given = a.given };
           }))
           (λ nr. let o = know.rows y j in subst (IsHeldRow M k (set s.words (515 * r + i) x) h.book w) (sym (of_other y nc nr)) (record {
             there = o.there;
             shown = (shows k first s.words r i x there inside (near_word i inside) y.row nr).words ∙ o.shown;
             place = place_stays k first s.words r i x there inside (near_word i inside) y.row ∙ o.place;
+            generation = λ g e. generation_stays k first s.words r i x there inside (near_word i inside) y.row ∙ o.generation g e;
             agrees = λ z. let a = o.agrees (still_out y.row nc z) in record { found = a.found; given = a.given };
           })))
 

@@ -28,13 +28,13 @@ use Rattle.row_table.specs.declared.view.PassView.{PassView}
 use Rattle.row_table.specs.declared.view.HeldRow.{HeldRow}
 use Rattle.row_table.specs.declared.plan.Content.TheVariants.{Row}
 use Rattle.row_table.specs.Plan.{Meaning}
-use Rattle.row_table.specs.Rows.{row_words, place_at}
+use Rattle.row_table.specs.Rows.{row_words, place_at, generation_of}
 use Rattle.row_table.specs.Rule.{Slot, Homes, Seat, levels_of, view, IsOne, row_part, core_of, Agrees, IsHeldRow, Knows, Holds}
 use Rattle.row_table.specs.Vacant.{KeepsVacant}
 use Rattle.row_table.specs.Moves.{grabbed, looked, got, released, NotInHand, GrabSays, GrabTells, ReleaseTells, MayGrab, Fits}
 use Rattle.row_table.proofs.Shown.{ShowSame, lock_shows}
 use Rattle.row_table.proofs.Frames.{RowHome, moved_here, knows_shown, contents_locked, home_of, home_moves}
-use Rattle.row_table.proofs.Known.{held_below, place_known, links_below, loose_row, holder_of}
+use Rattle.row_table.proofs.Known.{held_below, place_known, generation_known, links_below, links_lead, right_now, loose_row, holder_of}
 use Rattle.row_table.proofs.Views.{kept, rows_without, pass_is, is_linked, not_in_hand, guard_grab, has_held}
 
 -- a row's lock word is at most that of a row that nobody may take
@@ -46,19 +46,19 @@ lock_small c r w few small there (says_stale shown out) = omega arith
 module _ {R B E : Type 0} (M : Meaning R B E) where
   -- what a pass that holds one row more knows
   holds_more : (k : Layout) (first : B) (ws us : List ℕ) (b : B) (v : PassView R B E) (r : ℕ) (x : R) → ShowSame k ws us → r < k.rows → M.agrees b (place_at ws r) (row_words ws r) x
-      → Knows M k first ws b v → Knows M k first us b (got v r (place_at ws r) (row_words ws r) x)
+      → Knows M k first ws b v → Knows M k first us b (got v r (place_at ws r) (generation_of ws r) (row_words ws r) x)
   holds_more k first ws us b v r x shows less agrees old =
       let now = knows_shown M k first ws us b v shows old in
-      let g : HeldRow R = grabbed r (place_at ws r) (row_words ws r) x in
-      let w : PassView R B E = got v r (place_at ws r) (row_words ws r) x in
+      let g : HeldRow R = grabbed r (place_at ws r) (generation_of ws r) (row_words ws r) x in
+      let w : PassView R B E = got v r (place_at ws r) (generation_of ws r) (row_words ws r) x in
       let z = shows.rows r less in record {
         there = now.there;
         layout = now.layout;
         epoch = now.epoch;
         held = map-append row_part v.rows (g ∷ []) ∙ ap (λ (l : List ℕ). l ++ r ∷ []) now.held;
         rows = λ y i. ⊎_elim
-            (λ (j : Contains v.rows y). let o = now.rows y j in record { there = o.there; shown = o.shown; place = o.place; agrees = o.agrees })
-            (λ (e : g ≡ y). subst (λ (u : HeldRow R). IsHeldRow M k us b w u) e (record { there = less; shown = z.words; place = z.place; agrees = λ _. record { found = λ _ y is. (let same : x ≡ y = cc in subst (λ (u : R). M.agrees b (place_at ws r) (row_words ws r) u) same agrees); given = λ f. absurd (cc) } }))
+            (λ (j : Contains v.rows y). let o = now.rows y j in record { there = o.there; shown = o.shown; place = o.place; generation = o.generation; agrees = o.agrees })
+            (λ (e : g ≡ y). subst (λ (u : HeldRow R). IsHeldRow M k us b w u) e (record { there = less; shown = z.words; place = z.place; generation = λ q is. (let same : generation_of ws r ≡ q = cc in z.generation ∙ same); agrees = λ _. record { found = λ _ y is. (let same : x ≡ y = cc in subst (λ (u : R). M.agrees b (place_at ws r) (row_words ws r) u) same agrees); given = λ f. absurd (cc) } }))
             (Contains-push_cases v.rows g y i);
         granted = now.granted;
         hand = now.hand;
@@ -81,7 +81,7 @@ module _ {R B E : Type 0} (M : Meaning R B E) where
         layout = now.layout;
         epoch = now.epoch;
         held = rows_without r v.rows ∙ ap (without r) now.held;
-        rows = λ y i. let o = now.rows y (kept (λ (u : HeldRow R). not (eqb u.row r)) v.rows y i).1 in record { there = o.there; shown = o.shown; place = o.place; agrees = o.agrees };
+        rows = λ y i. let o = now.rows y (kept (λ (u : HeldRow R). not (eqb u.row r)) v.rows y i).1 in record { there = o.there; shown = o.shown; place = o.place; generation = o.generation; agrees = o.agrees };
         granted = now.granted;
         hand = now.hand;
         vacant = λ y i. now.vacant y (kept (λ (u : HeldRow R). not (eqb u.row r)) v.rows y i).1;
@@ -121,7 +121,7 @@ module _ {R B E : Type 0} (M : Meaning R B E) where
       let know = h.knows v.number v mine in
       let place : Place = place_at s.words r in let words : List ℕ = row_words s.words r in
       dite (ℕ_discrete found 0)
-      (λ hit. let t = h.contents.linked r less hit in let w : PassView R B E = got v r place words t.0 in
+      (λ hit. let t = h.contents.linked r less hit in let w : PassView R B E = got v r place (generation_of s.words r) words t.0 in
       let number : either (eqb found 0) (n + 1) found ≡ n + 1 = ap (λ b. either b (n + 1) found) (eq-eqb found 0 hit) in
       let linked = free_linked h.good.locks.rows r less hit in
       let unheld = free_unheld h.good.locks.rows r hit v.number in
@@ -141,10 +141,15 @@ module _ {R B E : Type 0} (M : Meaning R B E) where
             subst (GrabSays m found (w ∷ [], (r, Some (Row t.0)) ∷ m.1)) e (
               (λ _. (
                 record {
+                  right = right_now M k first s h v mine;
+                  there = subst (λ (y : Layout). r < y.rows) (sym know.layout) less;
                   place = place;
                   known = place_known M k first s h v mine r;
+                  generation = generation_of s.words r;
+                  known_generation = generation_known M k first s h v mine r;
                   words = words;
                   below = links_below M k first s h v mine r less;
+                  leads = links_lead M k first s h v mine r less;
                   content = t.0;
                   linked = not_in_hand M k first s h v mine r linked;
                   once = λ has. let there = has_held M k first s h v mine r has in omega arith;
@@ -169,7 +174,7 @@ module _ {R B E : Type 0} (M : Meaning R B E) where
             (subst (RowHome M k (set s.words (lock_at r) (either (eqb found 0) (n + 1) found)) h.book s.homes r) (sym number)
             (home_moves M k s.words (set s.words (lock_at r) (either (eqb found 0) (n + 1) found)) h.book h.book s.homes s.homes r found (shows.rows r less) refl (λ _ _ a. a) (home_of M h.contents r less))))
             shows
-            (record { there = now.there; layout = now.layout; epoch = now.epoch; held = now.held; rows = λ y i. let o = now.rows y i in record { there = o.there; shown = o.shown; place = o.place; agrees = o.agrees }; granted = now.granted; hand = now.hand; vacant = now.vacant; placed = now.placed; found = now.found; origin = now.origin; seen = now.seen; mine = now.mine }),
+            (record { there = now.there; layout = now.layout; epoch = now.epoch; held = now.held; rows = λ y i. let o = now.rows y i in record { there = o.there; shown = o.shown; place = o.place; generation = o.generation; agrees = o.agrees }; granted = now.granted; hand = now.hand; vacant = now.vacant; placed = now.placed; found = now.found; origin = now.origin; seen = now.seen; mine = now.mine }),
         λ q same. let e : r ≡ q = omega arith in
             subst (GrabSays m found (w ∷ [], m.1)) e (
               (λ z. absurd (miss z)),

@@ -19,17 +19,19 @@ use Rattle.row_table.specs.Looks.{looked_at, Reads, LookSays, LookTells, MayLook
 use Rattle.row_table.proofs.Shown.{word_at}
 use Rattle.row_table.proofs.Frames.{moved}
 use Rattle.row_table.proofs.Views.{pass_is, has_held}
-use Rattle.row_table.proofs.Known.{place_known, link_below}
+use Rattle.row_table.proofs.Known.{place_known, link_below, link_leads, right_now}
 
 module _ {R B E : Type 0} (M : Meaning R B E) where
   read_is : (k : Layout) (first : B) (s : Table R B E) (h : Holds M k first s) (v : PassView R B E) → get_elem? h.passes v.number ≡ some v → (r i : ℕ) → r < k.rows → i < 512 → Reads v r i (get_or s.words (entry_at r i) 0)
   read_is k first s h v mine r i less inside =
       let know = h.knows v.number v mine in record {
+        right = right_now M k first s h v mine;
         place = place_at s.words r;
         known = place_known M k first s h v mine r;
         holds = λ x j same. let o = know.rows x j in
             ap (λ (q : ℕ). get_or s.words (entry_at q i) 0) (sym same) ∙ (sym (word_at s.words x.row i inside) ∙ ap (λ (ws : List ℕ). get_or ws i 0) o.shown);
         below = λ link. link_below M k first s h v mine r i less inside link;
+        leads = λ link. link_leads M k first s h v mine r i less inside link;
       }
 
   -- a row that a pass may look at is there
@@ -54,7 +56,7 @@ module _ {R B E : Type 0} (M : Meaning R B E) where
         layout = know.layout;
         epoch = know.epoch;
         held = know.held;
-        rows = λ y j. let o = know.rows y j in record { there = o.there; shown = o.shown; place = o.place; agrees = o.agrees };
+        rows = λ y j. let o = know.rows y j in record { there = o.there; shown = o.shown; place = o.place; generation = o.generation; agrees = o.agrees };
         granted = know.granted;
         hand = know.hand;
         vacant = know.vacant;

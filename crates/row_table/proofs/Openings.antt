@@ -101,7 +101,7 @@ module _ {R B E : Type 0} (M : Meaning R B E) where
         epoch = epochs_stay M k ws r j n less near no_lock v.number ∙ old.epoch;
         held = old.held;
         rows = λ x i. let o = old.rows x i in let z = shows x.row (not_part row_part v.rows v.core.held r old.held unheld x i) in
-            record { there = o.there; shown = z.words ∙ o.shown; place = z.place ∙ o.place; agrees = λ out. o.agrees (sym (same x.row) ∙ out) };
+            record { there = o.there; shown = z.words ∙ o.shown; place = z.place ∙ o.place; generation = λ g e. z.generation ∙ o.generation g e; agrees = λ out. o.agrees (sym (same x.row) ∙ out) };
         granted = same_parts f hand_part hand_part same_row v.hand ∙ (old.granted ∙ sym (part_keeps_rows r part v.core.granted));
         hand = λ y i. let o = contained_map f v.hand y i in subst (IsHandRow M k (set ws (515 * r + j) n) b) o.2 (hand o.0 o.1);
         vacant = λ x i out. old.vacant x i (sym (same x.row) ∙ out);
@@ -240,8 +240,8 @@ module _ {R B E : Type 0} (M : Meaning R B E) where
         epoch = now.epoch;
         held = map-append row_part v.rows (g ∷ []) ∙ ap (λ (l : List ℕ). l ++ r ∷ []) now.held;
         rows = λ y i. ⊎_elim
-            (λ (j : Contains v.rows y). let o = now.rows y j in record { there = o.there; shown = o.shown; place = o.place; agrees = o.agrees })
-            (λ (e : g ≡ y). subst (λ (u : HeldRow R). IsHeldRow M k us b w u) e (record { there = less; shown = z.words ∙ blank; place = z.place; agrees = λ out. absurd (omega arith) }))
+            (λ (j : Contains v.rows y). let o = now.rows y j in record { there = o.there; shown = o.shown; place = o.place; generation = o.generation; agrees = o.agrees })
+            (λ (e : g ≡ y). subst (λ (u : HeldRow R). IsHeldRow M k us b w u) e (record { there = less; shown = z.words ∙ blank; place = z.place; generation = λ q is. absurd (cc); agrees = λ out. absurd (omega arith) }))
             (Contains-push_cases v.rows g y i);
         granted = now.granted;
         hand = now.hand;

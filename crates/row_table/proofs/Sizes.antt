@@ -74,6 +74,13 @@ module _ {R B E : Type 0} {n rows : ℕ} {id : TableId} {v : PassView R B E} (ol
   same_sizes other k same words slots = let a = old.slots in let b = old.words in let c = old.rows_are in let d = old.number in
       let e = ap (λ (x : TableId). x.words) same in let f = ap (λ (x : TableId). x.slots) same in (omega arith, omega arith)
 
+  pub same_layout : (other : TableId) (k : Layout) → id ≡ other → other.words ≡ word_count k → other.slots ≡ k.rows + 1 → v.layout ≡ k
+  same_layout other k same words slots =
+      let a = old.slots in let b = old.words in let c = old.rows_are in let e = ap (λ (x : TableId). x.words) same in let f = ap (λ (x : TableId). x.slots) same in
+      let rows_same : v.layout.rows ≡ k.rows = omega arith in
+      let passes_same : v.layout.passes ≡ k.passes = omega arith in
+      λ i. record { rows = rows_same i; passes = passes_same i }
+
   pub row_there : AreRows rows v.core.held → (other : TableId) (k : Layout) → id ≡ other → other.words ≡ word_count k → other.slots ≡ k.rows + 1 → (r : ℕ) → MayLook v r → r < k.rows
   row_there are other k same words slots r may = let less = look_below are r may in let all = (same_sizes other k same words slots).0 in omega arith
 
@@ -105,16 +112,16 @@ module _ {R B E : Type 0} {n rows : ℕ} {id : TableId} {v : PassView R B E} (ol
   pub sized_miss : (r : ℕ) (place : Place) (w : ℕ) → IsSized n rows id (looked v r place None w)
   sized_miss r place w = record { slots = old.slots; words = old.words; rows_are = old.rows_are; number = old.number; stand = old.stand; links = old.links; granted = old.granted }
 
-  pub sized_got : (r : ℕ) (place : Place) (words : List ℕ) (x : R) → LinksBelow v.layout.rows words → IsSized n rows id (got v r place words x)
-  sized_got r place words x below = record {
+  pub sized_got : (r : ℕ) (place : Place) (g : ℕ) (words : List ℕ) (x : R) → LinksBelow v.layout.rows words → IsSized n rows id (got v r place g words x)
+  sized_got r place g words x below = record {
     slots = old.slots;
     words = old.words;
     rows_are = old.rows_are;
     number = old.number;
     stand = old.stand;
     links = λ h i. ⊎_elim (λ (j : Contains v.rows h). old.links h j)
-        (λ (e : grabbed r place words x ≡ h). subst (λ (y : HeldRow R). LinksBelow rows y.words) e (subst (λ (m : ℕ). LinksBelow m words) (sym old.rows_are) below))
-        (Contains-push_cases v.rows (grabbed r place words x) h i);
+        (λ (e : grabbed r place g words x ≡ h). subst (λ (y : HeldRow R). LinksBelow rows y.words) e (subst (λ (m : ℕ). LinksBelow m words) (sym old.rows_are) below))
+        (Contains-push_cases v.rows (grabbed r place g words x) h i);
     granted = old.granted;
   }
 

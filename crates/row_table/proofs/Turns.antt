@@ -17,7 +17,7 @@ use Rattle.table_place.specs.declared.Place.{Place}
 use Rattle.walk_core.specs.declared.event.Event.TheVariants.{Turn}
 use Rattle.walk_core.specs.declared.pass.PassCore.{PassCore}
 use Rattle.walk_core.specs.declared.pass.GrantedRow.{GrantedRow}
-use Rattle.walk_core.specs.Words.{book_at}
+use Rattle.walk_core.specs.Words.{held_by, book_at}
 use Rattle.walk_core.specs.Lists.{times, Has, minus}
 use Rattle.walk_core.specs.Core.{Core, word, pass_at, idle, no_samples, times_in_hand, times_out, IsLinked}
 use Rattle.walk_core.specs.Events.{newly_granted, free_after}
@@ -36,8 +36,10 @@ use Rattle.row_table.specs.Rows.{row_words, place_at, lock_of, generation_of}
 use Rattle.row_table.specs.Rule.{Slot, Homes, Seat, Table, levels_of, view, IsOne, row_part, hand_part, StartsWith, places_from, own_places, SameRows, core_of, IsHeldRow, IsHandRow, Knows, Holds}
 use Rattle.row_table.specs.Moves.{NotInHand}
 use Rattle.row_table.specs.Vacant.{KeepsVacant}
+use Rattle.row_table.specs.Known.{IsAnother}
 use Rattle.row_table.specs.Books.{given, region, swept_rows, taken_rows, give_of, MayGive, turned, waited, hand_rows, gave, Learns, TurnSays, TurnTells, GiveSays, GiveTells}
 use Rattle.row_table.proofs.Told.{same_front}
+use Rattle.row_table.proofs.Known.{right_now}
 use Rattle.row_table.proofs.Shown.{ShowSame, book_shows}
 use Rattle.row_table.proofs.Frames.{moved, moved_here, knows_shown, contents_booked}
 use Rattle.row_table.proofs.Views.{head_or_later, pass_is, knows_it, is_linked, held_of_row, has_held}
@@ -88,6 +90,23 @@ book_small c g = ⊎_elim (λ (z : word c (book_at c.rows c.count) ≡ 0). omega
     (λ (o : (p : ℕ) × (word c (book_at c.rows c.count) ≡ p + 1) × ((pass_at c p).has_book ≡ true)). let less = book_below c o.0 g o.2 in let few = g.sizes.bounds.count_high in let is = o.1 in omega arith) g.locks.book.each
 
 module _ {R B E : Type 0} (M : Meaning R B E) where
+  -- another pass has the book
+  book_holder : (k : Layout) (first : B) (s : Table R B E) (h : Holds M k first s) (v : PassView R B E) → get_elem? h.passes v.number ≡ some v → v.core.has_book ≡ false → get_or s.words (book_at k.rows k.passes) 0 ≢ 0
+      → (q : ℕ) × (get_or s.words (book_at k.rows k.passes) 0 ≡ held_by q) × IsAnother v q
+  book_holder k first s h v mine free miss =
+      let c : Core = core_of M k s.words h.passes h.free h.book in ⊎_elim
+      (λ (z : word c (book_at k.rows k.passes) ≡ 0). absurd (miss z))
+      (λ (o : (p : ℕ) × (word c (book_at k.rows k.passes) ≡ p + 1) × ((pass_at c p).has_book ≡ true)). (
+        o.0,
+        o.1,
+        record {
+          there = subst (λ (y : Layout). o.0 < y.passes) (sym (h.knows v.number v mine).layout) (book_below c o.0 h.good o.2);
+          other = λ e. let own = ap (λ (q : ℕ). (pass_at c q).has_book) (sym e) in let is = ap (λ (u : PassCore). u.has_book) (pass_is M k first s h v mine) in
+              let clash : true ≡ false = sym o.2 ∙ (sym own ∙ (is ∙ free)) in absurd (cc);
+        },
+      ))
+      h.good.locks.book.each
+
   learned : (k : Layout) (first : B) (s : Table R B E) (h : Holds M k first s) (v : PassView R B E) → get_elem? h.passes v.number ≡ some v → Learns M k.rows v h.book
   learned k first s h v mine =
       let know = h.knows v.number v mine in let c : Core = core_of M k s.words h.passes h.free h.book in
@@ -95,6 +114,7 @@ module _ {R B E : Type 0} (M : Meaning R B E) where
       let parts : (r : ℕ) → times r (M.free h.book) + times r (put_rows (M.limbo h.book)) + times_in_hand r v.core ≤ times_out c r
       = λ r. (let p = parts-le-out c v.number r (omega arith) in let f = h.same_free r in let i = ap (times_in_hand r) (pass_is M k first s h v mine) in omega arith) in
       record {
+        right = right_now M k first s h v mine;
         seen = know.seen;
         mine = know.mine;
         fixed = λ a is. let same : first ≡ a = cc in subst (λ (b : B). M.same_fixed b h.book) same h.fixed;
@@ -136,7 +156,7 @@ module _ {R B E : Type 0} (M : Meaning R B E) where
               layout = now.layout;
               epoch = now.epoch;
               held = now.held;
-              rows = λ y i. let o = now.rows y i in record { there = o.there; shown = o.shown; place = o.place; agrees = o.agrees };
+              rows = λ y i. let o = now.rows y i in record { there = o.there; shown = o.shown; place = o.place; generation = o.generation; agrees = o.agrees };
               granted = now.granted;
               hand = now.hand;
               vacant = now.vacant;
@@ -166,7 +186,7 @@ module _ {R B E : Type 0} (M : Meaning R B E) where
               layout = now.layout;
               epoch = now.epoch;
               held = now.held;
-              rows = λ y i. let o = now.rows y i in record { there = o.there; shown = o.shown; place = o.place; agrees = o.agrees };
+              rows = λ y i. let o = now.rows y i in record { there = o.there; shown = o.shown; place = o.place; generation = o.generation; agrees = o.agrees };
               granted = now.granted;
               hand = now.hand;
               vacant = now.vacant;
@@ -176,7 +196,7 @@ module _ {R B E : Type 0} (M : Meaning R B E) where
               seen = now.seen;
               mine = now.mine;
             }),
-        λ rows same. ((λ z. absurd (miss z)), λ _. (book_small (core_of M k s.words h.passes h.free h.book) h.good, refl)),
+        λ rows same. ((λ z. absurd (miss z)), λ _. let by = book_holder k first s h v mine free miss in (by.0, by.1, book_small (core_of M k s.words h.passes h.free h.book) h.good, by.2, refl)),
       ))
 
   -- A give
@@ -247,6 +267,7 @@ module _ {R B E : Type 0} (M : Meaning R B E) where
                 there = is.there;
                 shown = is.shown;
                 place = is.place;
+                generation = is.generation;
                 agrees = λ _. record { found = λ e. absurd (cc); given = λ _ a e words x agrees. let same : new ≡ a = cc in subst (λ (b : B). M.agrees b o.0.place words x) (sym same) agrees };
               });
           granted = map-append hand_part v.hand fresh ∙ ((λ i. now.granted i ++ (same_parts (λ r. record { row = r; generation = generation_of s.words r; low = M.next_generation h.book; high = M.next_generation new; place = None }) hand_part (λ (x : ℕ). x) (λ x. refl) taken
@@ -292,6 +313,7 @@ module _ {R B E : Type 0} (M : Meaning R B E) where
             there = o.there;
             shown = o.shown;
             place = o.place;
+            generation = o.generation;
             agrees = λ hand. let a = o.agrees hand in record {
               found = λ e y is. row_stays x i hand x.words_found y (a.found e y is);
               given = λ e b last words y agrees. row_stays x i hand words y (a.given e b last words y agrees);

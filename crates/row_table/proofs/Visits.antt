@@ -1,5 +1,5 @@
 -- What a caller of a pass knows after a grab, from the public clauses alone.
-use Rattle.std.proofs.Common.{◌≡◌, ◌≢◌, ℕ, List, [], ◌∷◌, ◌++◌, sym, refl, ap, ◌∙◌, subst, inl, ⊎_elim, arith}
+use Rattle.std.proofs.Common.{◌≡◌, ◌≢◌, ℕ, ◌+◌, None, List, [], ◌∷◌, ◌++◌, sym, refl, ap, ◌∙◌, subst, inl, ⊎_elim, arith}
 use Rattle.std.specs.List.{Contains}
 use Rattle.std.proofs.lemmas.List.Elements.{Contains-append_right}
 use Rattle.table_place.specs.declared.Place.{Place}
@@ -8,24 +8,30 @@ use Rattle.walk_core.proofs.RowLists.{times-nil, times_one_same}
 use Rattle.row_table.specs.declared.view.PassView.{PassView}
 use Rattle.row_table.specs.Plan.{Meaning}
 use Rattle.row_table.specs.Known.{IsHolder}
-use Rattle.row_table.specs.Moves.{grabbed, got, Fits}
+use Rattle.row_table.specs.declared.view.Finding.{Finding}
+use Rattle.row_table.specs.Moves.{finding, grabbed, looked, got, released, Fits}
 use Rattle.row_table.specs.Crossings.{left}
-use Rattle.row_table.specs.Uses.{IsStanding}
+use Rattle.row_table.specs.Uses.{IsStanding, HasFound}
+
+last_found : (l : List Finding) (f : Finding) → Contains (l ++ f ∷ []) f
+last_found l f = Contains-append_right l (f ∷ []) f (0, omega arith, refl)
 
 module _ {R B E : Type 0} where
   -- a pass that got the row
   pub record HasGot (v : PassView R B E) (row : ℕ) (x : R) : Type 0 where
     pub place : Place
+    pub generation : ℕ
     pub words : List ℕ
-    pub row_there : Contains v.rows (grabbed row place words x)
+    pub row_there : Contains v.rows (grabbed row place generation words x)
     pub held : v.core.held ≡ row ∷ []
 
   -- and left
-  pub has_got : (v u w : PassView R B E) (row : ℕ) (place : Place) (words : List ℕ) (x : R) → IsStanding v row → u ≡ got v row place words x → w ≡ left u → HasGot w row x
-  has_got v u w row place words x s e f = subst (λ (y : PassView R B E). HasGot y row x) (sym (f ∙ ap left e)) (record {
+  pub has_got : (v u w : PassView R B E) (row : ℕ) (place : Place) (generation : ℕ) (words : List ℕ) (x : R) → IsStanding v row → u ≡ got v row place generation words x → w ≡ left u → HasGot w row x
+  has_got v u w row place generation words x s e f = subst (λ (y : PassView R B E). HasGot y row x) (sym (f ∙ ap left e)) (record {
     place = place;
+    generation = generation;
     words = words;
-    row_there = Contains-append_right v.rows (grabbed row place words x ∷ []) (grabbed row place words x) (0, omega arith, refl);
+    row_there = Contains-append_right v.rows (grabbed row place generation words x ∷ []) (grabbed row place generation words x) (0, omega arith, refl);
     held = ap (λ (l : List ℕ). l ++ row ∷ []) s.held;
   })
 
@@ -33,9 +39,16 @@ module _ {R B E : Type 0} where
   holds_it {v} {row} {x} g = subst (λ (l : List ℕ). Has l row) (sym g.held) (let one = times_one_same row row refl in omega arith)
 
   pub fits_it : (M : Meaning R B E) {v : PassView R B E} {row : ℕ} {x : R} → HasGot v row x → Fits M v row x
-  fits_it M {v} {row} {x} g = record { known = grabbed row g.place g.words x; held = g.row_there; same_row = refl; content_fits = inl (refl, refl, refl) }
+  fits_it M {v} {row} {x} g = record { known = grabbed row g.place g.generation g.words x; held = g.row_there; same_row = refl; content_fits = inl (refl, refl, refl) }
 
   -- a pass that has nothing is not the holder
   pub another : {v : PassView R B E} {row s : ℕ} → IsStanding v row → IsHolder v row s → s ≢ v.number
   another {v} {row} {s} stands holder = ⊎_elim (λ (ne : s ≢ v.number). ne)
       (λ (has : Has v.core.held row). let none = ap (times row) stands.held ∙ times-nil row in absurd (omega arith)) holder.other
+
+  -- what a grab found stands among the findings
+  pub found_got : (v u w y : PassView R B E) (row : ℕ) (place : Place) (generation : ℕ) (words : List ℕ) (x : R) → u ≡ got v row place generation words x → w ≡ left u → y ≡ released w row → HasFound y row 0
+  found_got v u w y row place generation words x e f g = subst (λ (z : PassView R B E). HasFound z row 0) (sym (g ∙ ap (λ (z : PassView R B E). released z row) (f ∙ ap left e))) (place, last_found v.findings (finding row place None 0))
+
+  pub found_missed : (v u w : PassView R B E) (row n : ℕ) (place : Place) → u ≡ looked v row place None n → w ≡ left u → HasFound w row n
+  found_missed v u w row n place e f = subst (λ (z : PassView R B E). HasFound z row n) (sym (f ∙ ap left e)) (place, last_found v.findings (finding row place None n))

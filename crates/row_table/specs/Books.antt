@@ -30,6 +30,7 @@ use Rattle.row_table.specs.declared.view.HandRow.{HandRow}
 use Rattle.row_table.specs.Plan.{Meaning, Region}
 use Rattle.row_table.specs.Rule.{Slot, Seat, levels_of, StartsWith, SameRows, view, own_places, core_of, Agrees}
 use Rattle.row_table.specs.Vacant.{vacant_entries}
+use Rattle.row_table.specs.Known.{IsAnother, IsRight}
 use Rattle.row_table.specs.Moves.{NotInHand}
 
 abbrev pub given : {R : Type 0} → HeldRow R → HeldRow R
@@ -109,6 +110,7 @@ module _ {R B E : Type 0} where
 
     -- of a book that was got, where there are so many rows: it goes on from what the pass knows, and its rows are in no other list
     pub record Learns (rows : ℕ) (v : PassView R B E) (book : B) : Type 0 where
+      pub right : IsRight v
       pub seen : StartsWith (M.journal book) v.seen
       pub mine : v.mine ≡ own_places M v.number (M.journal book)
       pub fixed : (first : B) → v.origin ≡ Some first → M.same_fixed first book
@@ -120,7 +122,7 @@ module _ {R B E : Type 0} where
     -- of a turn that found n, where the book's slot is behind so many rows
     abbrev pub TurnSays : Seat R B E → ℕ → Seat R B E → ℕ → Type 0
     TurnSays m n m' rows = (n ≡ 0 → (book : B) × Learns rows (view m) book × (m' ≡ (turned (view m) book ∷ [], (rows, Some (Book book)) ∷ m.1)))
-        × (n ≢ 0 → (n ≤ 255) × (m' ≡ (waited (view m) n ∷ [], m.1)))
+        × (n ≢ 0 → (s : ℕ) × (n ≡ held_by s) × (n ≤ 255) × IsAnother (view m) s × (m' ≡ (waited (view m) n ∷ [], m.1)))
 
     abbrev pub TurnTells : Step (Slot R B) → Seat R B E → ℕ → Seat R B E → Type 0
     TurnTells st m n m' = (rows : ℕ) → st.slots ≡ rows + 1 → TurnSays m n m' rows
@@ -142,7 +144,7 @@ module _ {R B E : Type 0} where
 
     abbrev pub Turns : ℕ → PassView R B E → Turned B → PassView R B E → Type 0
     Turns rows v (Got book) w = Learns rows v book × (w ≡ turned v book)
-    Turns rows v (Held holder) w = w ≡ waited v (held_by holder)
+    Turns rows v (Held holder) w = IsAnother v holder × (w ≡ waited v (held_by holder))
 
     pub record Gives (v : PassView R B E) (new : B) (w : PassView R B E) : Type 0 where
       pub old : B

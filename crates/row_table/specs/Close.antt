@@ -22,7 +22,7 @@ use Rattle.row_table.specs.declared.plan.Content.TheVariants.{Row, Book}
 use Rattle.row_table.specs.declared.view.PassView.{PassView}
 use Rattle.row_table.specs.Plan.{Meaning}
 use Rattle.row_table.specs.Rows.{row_words, place_at}
-use Rattle.row_table.specs.Rule.{Slot, SameRows, StartsWith, own_places}
+use Rattle.row_table.specs.Rule.{Slot, levels_of, SameRows, StartsWith, own_places}
 
 pub record HasNothing (v : PassCore) : Type 0 where
   pub outside : v.stand ≡ None
@@ -53,6 +53,7 @@ module _ {R B E : Type 0} (M : Meaning R B E) where
   pub record IsGoodEnd (k : Layout) (words : List ℕ) (book : B) : Type 0 where
     pub core : Core
     pub good : Good core
+    pub levels : core.levels ≡ levels_of k
     pub rows : core.rows ≡ k.rows
     pub count : core.count ≡ k.passes
     pub words_same : core.words ≡ words

@@ -7,6 +7,7 @@ use Rattle.walk_core.specs.Events.{top}
 use Rattle.row_table.specs.declared.answers.Worn.{Worn}
 use Rattle.row_table.specs.declared.view.PassView.{PassView}
 use Rattle.row_table.specs.Rule.{Seat, view}
+use Rattle.row_table.specs.Known.{IsRight}
 
 module _ {R B E : Type 0} where
   abbrev pub entered : PassView R B E → PassView R B E
@@ -19,7 +20,7 @@ module _ {R B E : Type 0} where
   CrossTells f m n m' = (n ≡ (view m).epoch) × (m' ≡ (f (view m) ∷ [], m.1))
 
   abbrev pub EpochTells : Seat R B E → ℕ → Seat R B E → Type 0
-  EpochTells m n m' = (p : ℕ) → (view m).number ≡ p → (n ≡ (view m).epoch) × (n ≤ 2 ^ 62) × (m' ≡ m)
+  EpochTells m n m' = (p : ℕ) → (view m).number ≡ p → (n ≡ (view m).epoch) × (n ≤ 2 ^ 62) × (m' ≡ m) × IsRight (view m)
 
   -- an epoch word at its end is worn
   abbrev pub Enters : PassView R B E → Result (Unit {0}) Worn → PassView R B E → Type 0

@@ -1,28 +1,43 @@
 -- What a pass knows of rows by what it stands on and holds.
 --     LinksRow      a held row has an entry that links the row
---     IsKnownPlace      where a row is, as far as the pass knows
---     IsHolder, IsLoose      which pass holds a row, and a row that nobody may take
---     LinksBelow      the rows that entry words link are there
+--     IsKnownPlace, IsKnownGeneration      where a row is and what generation it has, as far as the pass knows
+--     IsHolder, IsAnother, IsLoose      which pass holds a row, another pass, and a row that nobody may take
+--     LinksBelow, LinksLead      the rows that entry words link are there, and at positions of tables
+--     IsRight      what is always true of what a pass knows
 --     IsSized      what a pass keeps of the sizes of its table
-use Rattle.std.specs.Prelude.{◌≡◌, ◌≢◌, ℕ, ◌+◌, ◌<◌, ◌⊎◌, true, List, slice_index, Some}
+use Rattle.std.specs.Prelude.{◌≡◌, ◌≢◌, ℕ, ◌+◌, ◌%◌, ◌^◌, ◌<◌, ◌≤◌, ◌⊎◌, true, List, map, slice_index, Some}
 use Rattle.std.specs.List.{Contains}
 use Rattle.atomic_table.specs.Seated.{TableId}
 use Rattle.table_place.specs.declared.Place.{Place}
-use Rattle.table_place.specs.Place.{entry_place}
+use Rattle.table_place.specs.Place.{entry_place, is_place}
 use Rattle.walk_core.specs.declared.pass.Stand.{Stand}
-use Rattle.walk_core.specs.Words.{is_link, link_row}
-use Rattle.walk_core.specs.Lists.{Has}
+use Rattle.walk_core.specs.Words.{is_link, link_row, link_generation}
+use Rattle.walk_core.specs.Lists.{Has, IsDistinct}
 use Rattle.walk_core.specs.Core.{granted_rows}
+use Rattle.walk_core.specs.Good.{inside as inside_now}
 use Rattle.row_layout.specs.Places.{word_count}
 use Rattle.row_table.specs.declared.view.PassView.{PassView}
 use Rattle.row_table.specs.declared.view.HeldRow.{HeldRow}
-use Rattle.row_table.specs.Rule.{levels_of}
+use Rattle.row_table.specs.Rule.{levels_of, row_part, hand_part}
 
 -- where there are so many rows
 abbrev pub LinksBelow : ℕ → List ℕ → Type 0
 LinksBelow rows words = (index : ℕ) → index < 512 → is_link (slice_index words index) ≡ true → link_row (slice_index words index) < rows
 
+-- where there are so many levels: the links of a row at this position lead to positions of tables
+abbrev pub LinksLead : ℕ → Place → List ℕ → Type 0
+LinksLead levels place words = (index : ℕ) → index < 512 → is_link (slice_index words index) ≡ true → is_place levels (entry_place levels place index) ≡ true
+
 module _ {R B E : Type 0} where
+  -- The rows of the view are those that the pass holds, each once, and those of its hand the ones that it was granted. Its epoch is odd where it is inside.
+  pub record IsRight (v : PassView R B E) : Type 0 where
+    pub number : v.number < v.layout.passes
+    pub rows : map row_part v.rows ≡ v.core.held
+    pub once : IsDistinct v.core.held
+    pub hand : map hand_part v.hand ≡ granted_rows v.core
+    pub parity : v.epoch % 2 ≡ inside_now v.core.stand
+    pub bounded : v.epoch ≤ 2 ^ 62
+
   pub record LinksRow (v : PassView R B E) (row : ℕ) : Type 0 where
     pub linker : HeldRow R
     pub held : Contains v.rows linker
@@ -37,14 +52,26 @@ module _ {R B E : Type 0} where
     pub of_held : (h : HeldRow R) → Contains v.rows h → h.row ≡ row → place ≡ h.place
     pub of_entry : (l : LinksRow v row) → place ≡ entry_place (levels_of v.layout) l.linker.place l.index
 
+  -- the generation of the stand on the row, of the held row, and in the entry of a held row that links it
+  pub record IsKnownGeneration (v : PassView R B E) (row generation : ℕ) : Type 0 where
+    pub of_stand : (s : Stand) → v.core.stand ≡ Some s → s.row ≡ row → generation ≡ s.generation
+    pub of_held : (h : HeldRow R) → Contains v.rows h → h.row ≡ row → (g : ℕ) → h.generation ≡ Some g → generation ≡ g
+    pub of_entry : (l : LinksRow v row) → generation ≡ link_generation (slice_index l.linker.words l.index)
+
   -- the pass s holds the row: it is the pass itself where that holds the row, and else another one
   pub record IsHolder (v : PassView R B E) (row s : ℕ) : Type 0 where
     pub there : s < v.layout.passes
     pub own : Has v.core.held row → s ≡ v.number
     pub other : (s ≢ v.number) ⊎ Has v.core.held row
 
-  -- the pass does not hold the row, and no row that it holds links it
+  -- the pass is there, and is not this one
+  pub record IsAnother (v : PassView R B E) (s : ℕ) : Type 0 where
+    pub there : s < v.layout.passes
+    pub other : s ≢ v.number
+
+  -- the row is not row 0, the pass does not hold it, and no row that it holds links it
   pub record IsLoose (v : PassView R B E) (row : ℕ) : Type 0 where
+    pub not_root : row ≢ 0
     pub not_held : ¬ Has v.core.held row
     pub unlinked : ¬ LinksRow v row
 

@@ -7,6 +7,7 @@ use Rattle.std.specs.Prelude.{◌≡◌, ℕ, ◌<◌, ◌⊎◌, true, [], ◌�
 use Rattle.std.specs.List.{Contains}
 use Rattle.atomic_table.specs.Table.{Step}
 use Rattle.table_place.specs.declared.Place.{Place}
+use Rattle.table_place.specs.Place.{entry_place, is_place}
 use Rattle.walk_core.specs.Words.{entry_at, is_link, link_row}
 use Rattle.walk_core.specs.Lists.{Has}
 use Rattle.walk_core.specs.Events.{stand_after_look}
@@ -14,7 +15,7 @@ use Rattle.walk_core.specs.Guards.{StandsOn}
 use Rattle.row_table.specs.declared.view.PassView.{PassView}
 use Rattle.row_table.specs.declared.view.HeldRow.{HeldRow}
 use Rattle.row_table.specs.Rule.{Slot, Seat, levels_of, view}
-use Rattle.row_table.specs.Known.{IsKnownPlace}
+use Rattle.row_table.specs.Known.{IsRight, IsKnownPlace}
 use Rattle.row_table.specs.Moves.{finding}
 
 module _ {R B E : Type 0} where
@@ -25,12 +26,14 @@ module _ {R B E : Type 0} where
     findings = v.findings ++ finding row place (Some index) n ∷ [];
   }
 
-  -- the row's position is known, the word of a held row is the known one, and a row that the word links is there
+  -- the row's position is known, the word of a held row is the known one, and a row that the word links is there and at the position of a table
   pub record Reads (v : PassView R B E) (row index n : ℕ) : Type 0 where
+    pub right : IsRight v
     pub place : Place
     pub known : IsKnownPlace v row place
     pub holds : (h : HeldRow R) → Contains v.rows h → h.row ≡ row → n ≡ slice_index h.words index
     pub below : is_link n ≡ true → link_row n < v.layout.rows
+    pub leads : is_link n ≡ true → is_place (levels_of v.layout) (entry_place (levels_of v.layout) place index) ≡ true
 
   abbrev pub LookSays : Seat R B E → ℕ → Seat R B E → ℕ → ℕ → Type 0
   LookSays m n m' row index = (reads : Reads (view m) row index n) × (m' ≡ (looked_at (view m) row reads.place index n ∷ [], m.1))

@@ -5,7 +5,7 @@
 --     GrabSays, GrabTells, ReleaseTells      what a step tells its seat
 --     NotInHand, MayGrab      a row is not in the pass's hand;  when a pass may grab
 --     Fits, MayRelease      a content that may stand in a row;  when a pass may release
-use Rattle.std.specs.Prelude.{◌≡◌, ◌≢◌, ℕ, ◌≤◌, not, true, false, ◌⊎◌, List, [], ◌∷◌, ◌++◌, nat_eq, Option, None, Some}
+use Rattle.std.specs.Prelude.{◌≡◌, ◌≢◌, ℕ, ◌<◌, ◌≤◌, not, true, false, ◌⊎◌, List, [], ◌∷◌, ◌++◌, nat_eq, Option, None, Some}
 use Rattle.std.specs.List.{Contains, filter}
 use Rattle.atomic_table.specs.Table.{Step, rest}
 use Rattle.table_place.specs.declared.Place.{Place}
@@ -18,23 +18,23 @@ use Rattle.row_table.specs.declared.view.PassView.{PassView}
 use Rattle.row_table.specs.declared.view.HeldRow.{HeldRow}
 use Rattle.row_table.specs.declared.view.Finding.{Finding}
 use Rattle.row_table.specs.Plan.{Meaning}
-use Rattle.row_table.specs.Rule.{Slot, Seat, view}
-use Rattle.row_table.specs.Known.{LinksRow, IsKnownPlace, IsHolder, IsLoose, LinksBelow}
+use Rattle.row_table.specs.Rule.{Slot, Seat, levels_of, view}
+use Rattle.row_table.specs.Known.{LinksRow, IsKnownPlace, IsKnownGeneration, IsHolder, IsLoose, LinksBelow, LinksLead, IsRight}
 
 abbrev pub finding : ℕ → Place → Option ℕ → ℕ → Finding
 finding row place index word = record { row = row; place = place; index = index; word = word }
 
-abbrev pub grabbed : {R : Type 0} → ℕ → Place → List ℕ → R → HeldRow R
-grabbed row place words found = record { row = row; place = place; words = words; words_found = words; found = Some found; is_given = false; vacant = [] }
+abbrev pub grabbed : {R : Type 0} → ℕ → Place → ℕ → List ℕ → R → HeldRow R
+grabbed row place generation words found = record { row = row; place = place; generation = Some generation; words = words; words_found = words; found = Some found; is_given = false; vacant = [] }
 
 module _ {R B E : Type 0} where
   abbrev pub looked : PassView R B E → ℕ → Place → Option ℕ → ℕ → PassView R B E
   looked v row place index word = record v { findings = v.findings ++ finding row place index word ∷ [] }
 
-  abbrev pub got : PassView R B E → ℕ → Place → List ℕ → R → PassView R B E
-  got v row place words found = record v {
+  abbrev pub got : PassView R B E → ℕ → Place → ℕ → List ℕ → R → PassView R B E
+  got v row place generation words found = record v {
     core = record v.core { held = v.core.held ++ row ∷ [] };
-    rows = v.rows ++ grabbed row place words found ∷ [];
+    rows = v.rows ++ grabbed row place generation words found ∷ [];
     findings = v.findings ++ finding row place None 0 ∷ [];
   }
 
@@ -44,12 +44,17 @@ module _ {R B E : Type 0} where
   abbrev pub NotInHand : PassView R B E → ℕ → Type 0
   NotInHand v row = times_in_hand row v.core ≡ 0
 
-  -- what a grab that took the row found: its position, its entry words and its content. The row is linked, and the pass did not hold it
+  -- what a grab that took the row found: its position, its generation, its entry words and its content. The row is linked, and the pass did not hold it
   pub record Finds (row : ℕ) (v : PassView R B E) : Type 0 where
+    pub right : IsRight v
+    pub there : row < v.layout.rows
     pub place : Place
     pub known : IsKnownPlace v row place
+    pub generation : ℕ
+    pub known_generation : IsKnownGeneration v row generation
     pub words : List ℕ
     pub below : LinksBelow v.layout.rows words
+    pub leads : LinksLead (levels_of v.layout) place words
     pub content : R
     pub linked : NotInHand v row
     pub once : ¬ Has v.core.held row
@@ -64,7 +69,7 @@ module _ {R B E : Type 0} where
 
   -- of a grab of the row that found n
   abbrev pub GrabSays : Seat R B E → ℕ → Seat R B E → ℕ → Type 0
-  GrabSays m n m' row = (n ≡ 0 → (f : Finds row (view m)) × (m' ≡ (got (view m) row f.place f.words f.content ∷ [], (row, Some (Row f.content)) ∷ m.1)))
+  GrabSays m n m' row = (n ≡ 0 → (f : Finds row (view m)) × (m' ≡ (got (view m) row f.place f.generation f.words f.content ∷ [], (row, Some (Row f.content)) ∷ m.1)))
       × (n ≢ 0 → (missed : Misses row (view m) n) × (m' ≡ (looked (view m) row missed.place None n ∷ [], m.1)))
 
   abbrev pub GrabTells : Step (Slot R B) → Seat R B E → ℕ → Seat R B E → Type 0

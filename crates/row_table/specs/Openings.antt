@@ -31,7 +31,7 @@ with_number row generation x = cond (nat_eq x.row row) (record x { generation = 
 
 -- a row that was opened: no grab found anything in it
 abbrev pub opened_row : {R : Type 0} → ℕ → Place → HeldRow R
-opened_row row place = record { row = row; place = place; words = blank_words; words_found = blank_words; found = None; is_given = false; vacant = [] }
+opened_row row place = record { row = row; place = place; generation = None; words = blank_words; words_found = blank_words; found = None; is_given = false; vacant = [] }
 
 module _ {R B E : Type 0} where
   abbrev pub placed : PassView R B E → ℕ → Place → PassView R B E

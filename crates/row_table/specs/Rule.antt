@@ -119,6 +119,7 @@ module _ {R B E : Type 0} where
       pub there : h.row < k.rows
       pub shown : row_words words h.row ≡ h.words
       pub place : place_at words h.row ≡ h.place
+      pub generation : (g : ℕ) → h.generation ≡ Some g → generation_of words h.row ≡ g
       pub agrees : times_in_hand h.row v.core ≡ 0 → Agrees book v.last h
 
     -- a row that the pass was granted

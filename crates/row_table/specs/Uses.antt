@@ -1,14 +1,39 @@
 -- What a caller of a pass knows of it, in the public words alone.
 --     IsStanding      a pass that stands on this row and has nothing
-use Rattle.std.specs.Prelude.{◌≡◌, ℕ, false, [], Some}
+--     HasFound      a grab or a look since the pass entered found this word in the row's lock word
+--     Touched, LookedIn      what a grab that was told found, and what a pass that came and went has done
+use Rattle.std.specs.Prelude.{◌≡◌, ℕ, ◌+◌, false, [], Some, None}
+use Rattle.std.specs.List.{Contains}
+use Rattle.table_place.specs.declared.Place.{Place}
 use Rattle.walk_core.specs.declared.pass.Stand.{Stand}
+use Rattle.walk_core.specs.Words.{held_by, stale}
 use Rattle.row_table.specs.declared.view.PassView.{PassView}
+use Rattle.row_table.specs.declared.uses.Visit.{Visit}
+use Rattle.row_table.specs.declared.uses.Visit.TheVariants.{Got, Held, Stale, Worn}
+use Rattle.row_table.specs.Moves.{finding}
 
-pub record IsStanding {R B E : Type 0} (v : PassView R B E) (row : ℕ) : Type 0 where
-  pub stand : Stand
-  pub on : v.core.stand ≡ Some stand
-  pub same_row : stand.row ≡ row
-  pub held : v.core.held ≡ []
-  pub granted : v.core.granted ≡ []
-  pub unlinked : v.core.unlinked ≡ []
-  pub has_not : v.core.has_book ≡ false
+module _ {R B E : Type 0} where
+  pub record IsStanding (v : PassView R B E) (row : ℕ) : Type 0 where
+    pub stand : Stand
+    pub on : v.core.stand ≡ Some stand
+    pub same_row : stand.row ≡ row
+    pub held : v.core.held ≡ []
+    pub granted : v.core.granted ≡ []
+    pub unlinked : v.core.unlinked ≡ []
+    pub has_not : v.core.has_book ≡ false
+
+  abbrev pub HasFound : PassView R B E → ℕ → ℕ → Type 0
+  HasFound v row word = (place : Place) × Contains v.findings (finding row place None word)
+
+  abbrev pub Touched : ℕ → PassView R B E → Visit → Type 0
+  Touched row w (Got r) = (r ≡ row) × HasFound w row 0
+  Touched row w (Held s) = HasFound w row (held_by s)
+  Touched row w Stale = HasFound w row stale
+  Touched row w Worn = ⊥
+
+  -- a pass that came inside and went out again, or could not come
+  abbrev pub LookedIn : PassView R B E → PassView R B E → Visit → Type 0
+  LookedIn v w (Got r) = (w.epoch ≡ v.epoch + 2) × HasFound w r 0
+  LookedIn v w (Held s) = (w.epoch ≡ v.epoch + 2) × ((row : ℕ) × HasFound w row (held_by s))
+  LookedIn v w Stale = (w.epoch ≡ v.epoch + 2) × ((row : ℕ) × HasFound w row stale)
+  LookedIn v w Worn = w ≡ v

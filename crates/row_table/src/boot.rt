@@ -160,7 +160,8 @@ impl<P: Plan> Iron<P> {
 
     /// The layout that `new` was given.
     pub fn layout(&self) -> &Layout
-        ensures { result.now ≡ layout_of self.now }
+        ensures layout { result.now ≡ layout_of self.now }
+        ensures sizes { IsLayout (layout_of self.now) }
     {
         &self.layout
     }

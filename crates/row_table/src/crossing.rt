@@ -1,6 +1,7 @@
 //! Enter and leave.
 ghost use Rattle.std.specs.Prelude.{◌≡◌, ◌<◌, None, IsSome};
-ghost use Rattle.row_table.specs.Passes.{view_of, kit_of, table_of, IsPassOf};
+ghost use Rattle.row_table.specs.Passes.{view_of, kit_of, table_of, layout_of, IsPassOf};
+ghost use Rattle.row_table.specs.Known.{IsRight};
 ghost use Rattle.row_table.specs.Crossings.{Enters, left};
 
 use crate::answers::Worn;
@@ -45,6 +46,8 @@ impl<P: Plan> Pass<P> {
         requires outside { (view_of self.old).core.stand ≡ None }
         ensures table { table_of self.new ≡ table_of self.old }
         ensures same { kit_of self.new ≡ kit_of self.old }
+        ensures layout { (view_of self.old).layout ≡ layout_of iron.now }
+        ensures right { IsRight (view_of self.old) }
         ensures enters { Enters (view_of self.old) result (view_of self.new) }
     {
         let word = iron.layout.epoch(self.number) as usize;

@@ -22,7 +22,7 @@ mod view;
 pub use answers::{Grabbed, Turned, Worn};
 pub use close::{IronClose, Parts};
 pub use pass::Pass;
-pub use plan::{Content, Plan};
+pub use plan::Plan;
 pub use row_layout::Layout;
 pub use table::Iron;
 pub use view::{Finding, HandRow, HeldRow, PassView};

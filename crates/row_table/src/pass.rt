@@ -128,6 +128,7 @@ impl<P: Plan> Pass<P> {
         requires free { (view_of self.old).core.has_book ≡ false }
         ensures table { table_of self.new ≡ table_of self.old }
         ensures same { kit_of self.new ≡ kit_of self.old }
+        ensures layout { (view_of self.old).layout ≡ layout_of iron.now }
         ensures turns { Turns P.meaning (layout_of iron.now).rows (view_of self.old) result (view_of self.new) }
     {
         let word = iron.layout.book() as usize;

@@ -1,9 +1,9 @@
 //! Callers that rely on the public clauses alone.
-ghost use Rattle.std.specs.Prelude.{◌≡◌, ◌≢◌, ◌<◌, true, false, MatchOption};
-ghost use Rattle.walk_core.specs.Words.{is_link, link_row};
+ghost use Rattle.std.specs.Prelude.{◌≡◌, ◌≢◌, ℕ, ◌+◌, ◌<◌, true, false, Some, MatchOption};
+ghost use Rattle.walk_core.specs.Words.{is_link, link_row, held_by};
 ghost use Rattle.row_table.specs.Passes.{view_of, number_of, table_of, IsPassOf};
 ghost use Rattle.row_table.specs.Close.{IsIdle};
-ghost use Rattle.row_table.specs.Uses.{IsStanding};
+ghost use Rattle.row_table.specs.Uses.{IsStanding, Touched, LookedIn};
 
 use crate::answers::{Grabbed, Turned};
 use crate::pass::Pass;
@@ -61,6 +61,7 @@ fn go_down<P: Plan>(iron: &Iron<P>, pass: &mut Pass<P>, row: u32, index: u32) ->
     requires stands { IsStanding (view_of pass.old) row }
     ensures table { table_of pass.new ≡ table_of pass.old }
     ensures number { number_of pass.new ≡ number_of pass.old }
+    ensures epoch { (view_of pass.new).epoch ≡ (view_of pass.old).epoch }
     ensures stands { IsStanding (view_of pass.new) result }
 {
     let word = pass.look(iron, row, index);
@@ -76,6 +77,8 @@ fn touch<P: Plan>(iron: &Iron<P>, pass: &mut Pass<P>, row: u32) -> Visit
     requires stands { IsStanding (view_of pass.old) row }
     ensures table { table_of pass.new ≡ table_of pass.old }
     ensures idle { IsIdle (view_of pass.new) }
+    ensures epoch { (view_of pass.new).epoch ≡ (view_of pass.old).epoch + 1 }
+    ensures touched { Touched row (view_of pass.new) result }
     ensures other { (s : _) → result ≡ Visit.Held s → s ≢ number_of pass.old }
 {
     let found = pass.grab(iron, row);
@@ -98,6 +101,7 @@ pub(crate) fn look_in<P: Plan>(iron: &Iron<P>, pass: &mut Pass<P>, first: u32, s
     requires inside { (first < 512) × (second < 512) }
     ensures table { table_of pass.new ≡ table_of pass.old }
     ensures idle { IsIdle (view_of pass.new) }
+    ensures looked { LookedIn (view_of pass.old) (view_of pass.new) result }
     ensures other { (s : _) → result ≡ Visit.Held s → s ≢ number_of pass.old }
 {
     match pass.enter(iron) {
@@ -116,6 +120,8 @@ pub(crate) fn add_entry(iron: &Iron<Tally>, pass: &mut Pass<Tally>, count: u32) 
     requires idle { IsIdle (view_of pass.old) }
     ensures table { table_of pass.new ≡ table_of pass.old }
     ensures idle { IsIdle (view_of pass.new) }
+    ensures added { result ≡ true → (view_of pass.new).turn ≡ Some 0 }
+    ensures busy { result ≡ false → (s : ℕ) × ((view_of pass.new).turn ≡ Some (held_by s)) }
 {
     match pass.turn(iron) {
         Turned::Got(mut entries) => {

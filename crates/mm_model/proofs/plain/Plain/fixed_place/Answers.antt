@@ -1,15 +1,14 @@
-use Rattle.std.proofs.Common.{◌≡◌, ℕ, ◌+◌, ◌*◌, ◌/◌, ◌≤◌, ◌<◌, ◌^◌, Bool, true, false, cond, [], Some, None, refl, sym, ap, subst, ◌∙◌, arith}
+use Rattle.std.proofs.Common.{◌≡◌, ℕ, ◌+◌, ◌*◌, ◌/◌, ◌<◌, ◌^◌, Bool, true, false, cond, Some, None, refl, sym, ap, subst, ◌∙◌, arith}
 use Rattle.std.specs.Prelude.{Option, ◌&&◌, is_some, nat_le, nat_lt}
-use Rattle.std.specs.Option.{option_copied, option_map, unwrap_or}
+use Rattle.std.specs.Option.{option_copied, option_map}
 use Rattle.std.specs.FinMap as map
 use Rattle.std.proofs.lemmas.Bool.{ltb-true, and_parts}
-use Rattle.corten_base.specs.declared.calls.Reply.TheVariants as reply
 use Rattle.corten_base.specs.declared.calls.TxnOp.TheVariants as op
 use Rattle.corten_base.specs.declared.calls.Why.TheVariants as why
 use Rattle.table_place.specs.Place.{above, is_page_range, pages_of}
 use Rattle.page_map.specs.Change.{least}
-use Rattle.page_map.specs.Mapping.{is_mappable, is_right, refused_op}
-use Rattle.page_map.specs.State.{State, AddressSpace, space_at}
+use Rattle.page_map.specs.Mapping.{is_right, refused_op}
+use Rattle.page_map.specs.State.{State, AddressSpace}
 use Rattle.page_map.specs.Step.{refusal}
 use Rattle.page_map.proofs.Least.{least_passes}
 use Rattle.mm_model.specs.Placing.{IsFixed, call_at, tables_lack}

@@ -1,4 +1,4 @@
-use Rattle.std.proofs.Common.{◌≡◌, ℕ, Some, refl, sym, ap, subst, ◌∙◌}
+use Rattle.std.proofs.Common.{◌≡◌, Some, sym, ap, subst, ◌∙◌}
 use Rattle.std.specs.Prelude.{is_some}
 use Rattle.std.specs.Option.{option_copied}
 use Rattle.std.specs.FinMap as map
@@ -8,7 +8,7 @@ use Rattle.page_map.specs.Spaces.{least_absent}
 use Rattle.page_map.specs.State.{State, IsConsistent, space_at}
 use Rattle.page_map.specs.Step.{refused_unless}
 use Rattle.mm_model.specs.NewSpaces.{MayMake, made}
-use Rattle.mm_model.proofs.SpaceSteps.{fork_birth, no_parent, all_present, cells_low, may_fork, forked, if_ok}
+use Rattle.mm_model.proofs.SpaceSteps.{fork_birth, no_parent, all_present, least_is_absent, cells_low, may_fork, fork_refused, forked, if_ok}
 use Rattle.mm_model.proofs.plain.Plain.fork.Goals as goal
 use Rattle.mm_model.proofs.plain.Plain.fork.Goals.{In-Some}
 
@@ -43,3 +43,14 @@ returns-clause-ok c =
     e ∙ ap (λ m. made c.args.self.now c.in-Some-least_absent.new m c.args.limbo) c.in_ok-cells.ensures
     ∙ forked c.args.self.now c.args.space c.in-Some-least_absent.new c.args.limbo thread c.in-Some.parent.now (here (goal.at.returns-clause-ok c).In-Some)
     (ap least_absent (sym c.self.view_is) ∙ sym c.least_absent.ensures ∙ c.in-Some-least_absent.is))
+
+pub lack_for-requires-clause-low : goal.lack_for-requires-clause-low
+lack_for-requires-clause-low c = cells_low c.args.self.now c.args.space c.in-Some.parent.now (subst IsConsistent c.self.view_is c.self.invariant.state) (here (goal.at.lack_for-requires-clause-low c).In-Some)
+
+pub lack_for-requires-clause-absent : goal.lack_for-requires-clause-absent
+lack_for-requires-clause-absent c = least_is_absent c.args.self.now c.in-Some-least_absent.new (ap least_absent (sym c.self.view_is) ∙ sym c.least_absent.ensures ∙ c.in-Some-least_absent.is)
+
+pub returns-in-Some-2-clause-ok : goal.returns-in-Some-2-clause-ok
+returns-in-Some-2-clause-ok c = λ thread.
+    fork_refused c.args.self.now c.args.space c.in-Some-least_absent.new c.args.limbo thread c.in-Some.parent.now c.in-Some-2.refused (here (goal.at.returns-in-Some-2-clause-ok c).In-Some)
+    (ap least_absent (sym c.self.view_is) ∙ sym c.least_absent.ensures ∙ c.in-Some-least_absent.is) (sym c.in_ok-refused.ensures ∙ c.in-Some-2.is)

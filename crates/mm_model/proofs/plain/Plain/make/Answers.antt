@@ -1,13 +1,11 @@
-use Rattle.std.proofs.Common.{◌≡◌, ℕ, ◌+◌, ◌-◌, ◌<◌, ◌≤◌, List, refl, sym, ap, subst, ◌∙◌, arith}
-use Rattle.std.specs.FinMap as map
+use Rattle.std.proofs.Common.{◌≡◌, ℕ, ◌+◌, ◌-◌, ◌≤◌, List, sym, ap, subst, ◌∙◌, arith}
 use Rattle.std.specs.FinSet as set
 use Rattle.corten_base.specs.declared.calls.Reply.TheVariants as reply
 use Rattle.page_map.specs.State.{State, linked}
 use Rattle.page_map.specs.Tables.{Tables}
-use Rattle.plain_counts.specs.Levels.{is_elsewhere}
 use Rattle.mm_model.specs.Plain.{IsSound}
 use Rattle.mm_model.specs.NewSpaces.{MayMake, made}
-use Rattle.mm_model.proofs.NewSpaces.{frames_in, slots_in, frames_fit, slots_fit, is_new, no_fewer, back, too_few, is_made, made_is_sound}
+use Rattle.mm_model.proofs.NewSpaces.{frames_in, slots_in, frames_fit, slots_fit, no_fewer, back, too_few, is_made, made_is_sound}
 use Rattle.mm_model.proofs.plain.Plain.make.Goals as goal
 use Rattle.mm_model.proofs.plain.Plain.make.Goals.{After-len-linked}
 

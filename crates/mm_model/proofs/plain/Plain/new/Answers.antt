@@ -1,4 +1,4 @@
-use Rattle.std.proofs.Common.{◌≤◌, [], List, ℕ, ap, sym, subst, ◌∙◌}
+use Rattle.std.proofs.Common.{◌≤◌, List, ℕ, ap, sym, subst, ◌∙◌}
 use Rattle.std.specs.FinMap as map
 use Rattle.std.specs.FinSet as set
 use Rattle.page_map.specs.State.{State, start, linked}

@@ -1,11 +1,9 @@
-use Rattle.std.proofs.Common.{◌≡◌, ℕ, ◌+◌, ◌^◌, Some, [], ap, sym, subst, ◌∙◌, arith}
+use Rattle.std.proofs.Common.{◌≡◌, ℕ, ◌+◌, ◌^◌, ap, sym, subst, ◌∙◌, arith}
 use Rattle.std.specs.Prelude.{is_some, nat_le, nat_lt}
 use Rattle.std.specs.Option.{option_copied}
 use Rattle.std.specs.FinMap as map
 use Rattle.std.proofs.lemmas.Bool.{ltb-true, and_parts}
-use Rattle.corten_base.specs.declared.calls.Reply.TheVariants as reply
 use Rattle.table_place.specs.Place.{above, pages_of}
-use Rattle.page_map.specs.Tables.{Tables, need}
 use Rattle.page_map.specs.State.{State}
 use Rattle.page_map.specs.Step.{refusal}
 use Rattle.page_map.proofs.Mappings.{gap_user}

@@ -1,5 +1,5 @@
-use Rattle.std.proofs.Common.{◌≡◌, ℕ, ◌+◌, ◌*◌, ◌/◌, ◌≤◌, ◌<◌, ◌^◌, true, false, [], Some, None, refl, sym, ap, subst, ◌∙◌, arith}
-use Rattle.std.specs.Prelude.{Option, IsSome, is_none, nat_le, nat_lt}
+use Rattle.std.proofs.Common.{◌≡◌, ℕ, ◌+◌, ◌*◌, ◌/◌, ◌≤◌, ◌^◌, true, false, [], None, refl, sym, ap, subst, ◌∙◌, arith}
+use Rattle.std.specs.Prelude.{IsSome, is_none, nat_le, nat_lt}
 use Rattle.std.specs.Option.{OnSome, option_map}
 use Rattle.std.specs.FinMap as map
 use Rattle.std.proofs.lemmas.Bool.{ltb-true, and_parts}
@@ -12,12 +12,10 @@ use Rattle.table_place.specs.Place.{is_page_range, pages_of}
 use Rattle.page_map.specs.Cell.{frame_of, slot_of, with_perm}
 use Rattle.page_map.specs.Change.{change, least}
 use Rattle.page_map.specs.Mapping.{refused_op, after_op}
-use Rattle.page_map.specs.State.{State, AddressSpace, linked}
+use Rattle.page_map.specs.State.{State, linked}
 use Rattle.page_map.specs.Tables.{Tables, changed_tables}
-use Rattle.page_map.specs.Step.{step}
 use Rattle.page_map.proofs.Least.{least_passes}
 use Rattle.plain_spaces.proofs.Moves.{put_back}
-use Rattle.plain_counts.specs.Fronts.{AreFull}
 use Rattle.plain_spaces.specs.Reach.{Follows}
 use Rattle.plain_spaces.proofs.Followed.{protected_stay, protected_slots_stay}
 use Rattle.mm_model.specs.Plain.{IsSound}

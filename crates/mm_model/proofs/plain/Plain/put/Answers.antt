@@ -1,10 +1,10 @@
-use Rattle.std.proofs.Common.{◌≡◌, ℕ, List, [], Some, None, refl, sym, ap, subst, ◌∙◌}
-use Rattle.std.specs.Prelude.{IsSome, Result, Ok, Err, OnOk, OnErr, alloc_error}
+use Rattle.std.proofs.Common.{◌≡◌, ℕ, List, Some, None, refl, sym, ap, subst, ◌∙◌}
+use Rattle.std.specs.Prelude.{IsSome, Result, Ok, Err, OnOk, OnErr}
 use Rattle.std.specs.declared.alloc.AllocError.{AllocError}
 use Rattle.std.specs.Option.{unwrap_or, option_copied_mut}
 use Rattle.std.specs.FinMap as map
 use Rattle.page_map.specs.Cell.{frame_of, slot_of}
-use Rattle.page_map.specs.State.{State, AddressSpace, space_at}
+use Rattle.page_map.specs.State.{State, AddressSpace}
 use Rattle.page_map.specs.Tables.{Tables}
 use Rattle.plain_spaces.specs.Reach.{Follows, Keeps}
 use Rattle.plain_spaces.proofs.Moves.{put_back}

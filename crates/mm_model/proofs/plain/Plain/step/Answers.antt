@@ -1,4 +1,4 @@
-use Rattle.std.proofs.Common.{◌≡◌, ◌≤◌, ap, sym, subst}
+use Rattle.std.proofs.Common.{◌≤◌, ap, sym, subst}
 use Rattle.page_map.specs.State.{State, IsConsistent, linked}
 use Rattle.page_map.proofs.StepKeeps.{step_keeps}
 use Rattle.mm_model.proofs.plain.Plain.step.Goals as goal

@@ -1,4 +1,4 @@
-use Rattle.std.proofs.Common.{◌≡◌, ℕ, ◌+◌, ◌*◌, ◌/◌, ◌≤◌, ◌<◌, ◌^◌, true, false, length, Some, None, refl, sym, ap, subst, ◌∙◌, arith}
+use Rattle.std.proofs.Common.{◌≡◌, ◌/◌, true, false, length, Some, None, refl, sym, ap, subst, ◌∙◌, arith}
 use Rattle.std.specs.Prelude.{IsSome, slice_index}
 use Rattle.std.specs.Option.{OnSome}
 use Rattle.std.specs.FinMap as map
@@ -7,7 +7,7 @@ use Rattle.corten_base.specs.declared.calls.Call.TheVariants as call
 use Rattle.corten_base.specs.declared.calls.Reply.TheVariants as reply
 use Rattle.table_place.specs.Place.{is_page_range, pages_of}
 use Rattle.page_map.specs.Change.{keys_in}
-use Rattle.page_map.specs.State.{State, linked, space_at}
+use Rattle.page_map.specs.State.{State, space_at}
 use Rattle.page_map.specs.Swap.{out_to, moved_to}
 use Rattle.page_map.specs.Takes.{grant}
 use Rattle.page_map.specs.Effect.{slot_grants}

@@ -1,17 +1,15 @@
-use Rattle.std.proofs.Common.{◌≡◌, ℕ, ◌+◌, ◌*◌, ◌/◌, ◌≤◌, ◌<◌, true, [], Some, None, not, refl, sym, ap, subst, ◌∙◌, arith}
-use Rattle.std.specs.Option.{OnSome, option_copied_mut}
+use Rattle.std.proofs.Common.{◌≡◌, ℕ, ◌+◌, ◌/◌, ◌≤◌, true, [], None, not, refl, sym, ap, subst, ◌∙◌, arith}
+use Rattle.std.specs.Option.{OnSome}
 use Rattle.std.specs.FinMap as map
 use Rattle.std.specs.FinSet as set
 use Rattle.corten_base.specs.declared.calls.Call.TheVariants as call
 use Rattle.corten_base.specs.declared.calls.Reply.TheVariants as reply
 use Rattle.corten_base.specs.declared.calls.TxnOp.TheVariants as op
 use Rattle.table_place.specs.Place.{is_inside, is_page_range, pages_of}
-use Rattle.page_map.specs.Cell.{frame_of, slot_of}
 use Rattle.page_map.specs.Change.{change}
 use Rattle.page_map.specs.Mapping.{after_op}
 use Rattle.page_map.specs.State.{State, linked}
 use Rattle.page_map.specs.Tables.{changed_tables}
-use Rattle.page_map.specs.Step.{step}
 use Rattle.plain_counts.specs.Fronts.{AreFull}
 use Rattle.mm_model.specs.Plain.{IsSound}
 use Rattle.mm_model.proofs.AccessCalls.{frames_here, slots_here}

@@ -5,7 +5,7 @@ use Rattle.row_table.specs.declared.view.PassView.{PassView}
 use Rattle.row_table.specs.Rule.{Seat, view, IsOne}
 use Rattle.row_table.specs.Crossings.{entered}
 use Rattle.row_table.proofs.Crossings.{reads_at, enters_at}
-use Rattle.row_table.proofs.Sizes.{same_sizes, sized_enter}
+use Rattle.row_table.proofs.Sizes.{same_layout, same_sizes, sized_enter}
 use Rattle.row_table.proofs.Told.{Kept, kept_by, view_of}
 use Rattle.row_table.proofs.pass.Pass.enter.Goals as goal
 
@@ -64,3 +64,15 @@ returns-clause-enters g c =
       (let found = t.0 in let most = t.1 in omega arith),
       view_of _ _ _ c.fetch_add.ensures.2.1 ∙ ap (λ (y : Seat g.row.P-Row.Denot g.row.P-Book.Denot g.row.P-Entry.Denot). entered (view y)) t.2,
     )
+
+pub returns-then-found-eq-LAST-clause-layout : goal.returns-then-found-eq-LAST-clause-layout
+returns-then-found-eq-LAST-clause-layout g c = same_layout c.args.self.now.sized _ c.args.iron.now.layout c.requires.table c.args.iron.now.sized.0 c.args.iron.now.sized.1
+
+pub returns-clause-layout : goal.returns-clause-layout
+returns-clause-layout g c = same_layout c.args.self.now.sized _ c.args.iron.now.layout c.requires.table c.args.iron.now.sized.0 c.args.iron.now.sized.1
+
+pub returns-then-found-eq-LAST-clause-right : goal.returns-then-found-eq-LAST-clause-right
+returns-then-found-eq-LAST-clause-right g c = (c.load-found.ensures.2 c.args.self.now.number c.args.self.now.one.1).3
+
+pub returns-clause-right : goal.returns-clause-right
+returns-clause-right g c = (c.load-found.ensures.2 c.args.self.now.number c.args.self.now.one.1).3

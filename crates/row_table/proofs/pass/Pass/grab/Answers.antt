@@ -38,9 +38,9 @@ invariant_of-self g c =
     let items : List ℕ = c.args.row ∷ p.stack.items in
     let pushed : c.push_front_reserved.new.self.items ≡ items = c.push_front_reserved.ensures.items in
     let k : Kept p.number p.rows c.take_row.new.seat.table_id c.take_row.new.seat.me c.push_front_reserved.new.self.items = subst (Kept p.number p.rows c.take_row.new.seat.table_id c.take_row.new.seat.me) (sym pushed)
-    (kept_by p.number p.rows p.seat.table_id c.take_row.new.seat.table_id c.take_row.new.seat.me items (got (view p.seat.me) c.args.row t.0.place t.0.words t.0.content) (c.take_row.ensures.table ∙ c.compare_exchange-before.ensures.0)
-    (swapped _ _ _ _ _ _ t.1 c.take_row.ensures.seat ∙ ap (λ (cs : _). (got (view p.seat.me) c.args.row t.0.place t.0.words t.0.content ∷ [], (c.args.row, None) ∷ cs)) p.stacked)
-    p.one.1 (sized_got p.sized c.args.row t.0.place t.0.words t.0.content t.0.below) (carries_row p.rows c.args.row (view p.seat.me).core.held p.stack.items (view p.seat.me).core.has_book p.carries) (rows_with p.rows c.args.row (view p.seat.me).core.held p.held (omega arith) none)) in
+    (kept_by p.number p.rows p.seat.table_id c.take_row.new.seat.table_id c.take_row.new.seat.me items (got (view p.seat.me) c.args.row t.0.place t.0.generation t.0.words t.0.content) (c.take_row.ensures.table ∙ c.compare_exchange-before.ensures.0)
+    (swapped _ _ _ _ _ _ t.1 c.take_row.ensures.seat ∙ ap (λ (cs : _). (got (view p.seat.me) c.args.row t.0.place t.0.generation t.0.words t.0.content ∷ [], (c.args.row, None) ∷ cs)) p.stacked)
+    p.one.1 (sized_got p.sized c.args.row t.0.place t.0.generation t.0.words t.0.content t.0.below) (carries_row p.rows c.args.row (view p.seat.me).core.held p.stack.items (view p.seat.me).core.has_book p.carries) (rows_with p.rows c.args.row (view p.seat.me).core.held p.held (omega arith) none)) in
     record {
       one = k.one;
       sized = k.sized;
@@ -54,7 +54,7 @@ invariant_of-self g c =
 pub returns-then-before-eq0-clause-grabs : goal.returns-then-before-eq0-clause-grabs
 returns-then-before-eq0-clause-grabs g c =
     let t = (c.compare_exchange-before.ensures.2 c.args.row c.lock-word.ensures).0 c.if-before-eq0.true in let same = came_out _ _ _ _ _ _ t.1 c.take_row.ensures.front in
-    (t.0, same, view_of _ _ _ (swapped _ _ _ _ _ _ t.1 c.take_row.ensures.seat) ∙ ap (got (view c.args.self.now.seat.me) c.args.row t.0.place t.0.words) same)
+    (t.0, same, view_of _ _ _ (swapped _ _ _ _ _ _ t.1 c.take_row.ensures.seat) ∙ ap (got (view c.args.self.now.seat.me) c.args.row t.0.place t.0.generation t.0.words) same)
 
 pub invariant_of-self-else-before-eq0 : goal.invariant_of-self-else-before-eq0
 invariant_of-self-else-before-eq0 g c =
