@@ -10,6 +10,7 @@ pub mod Full
 pub mod OpSteps
 pub mod OpCalls
 pub mod Fixed
+pub mod TxnSteps
 pub mod Bounds
 pub mod SwapSteps
 pub mod NewSpaces

@@ -3,3 +3,4 @@ pub mod Accesses
 pub mod Placing
 pub mod Served
 pub mod NewSpaces
+pub mod Transactions

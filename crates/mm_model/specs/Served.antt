@@ -4,7 +4,7 @@ use Rattle.std.specs.Prelude.{◌≤◌, length}
 use Rattle.corten_base.specs.declared.calls.Call.{Call}
 use Rattle.corten_base.specs.declared.calls.Call.TheVariants as call
 
--- all but transactions, where an access is of 1 to 4,096 bytes
+-- all, where an access is of 1 to 4,096 bytes
 abbrev pub IsServed : Call → Type 0
 IsServed (call.Map space where_to len perm what) = Unit {0}
 IsServed (call.Unmap space at len) = Unit {0}
@@ -17,4 +17,4 @@ IsServed (call.Fork space) = Unit {0}
 IsServed (call.Exit space) = Unit {0}
 IsServed (call.SwapOut space at len) = Unit {0}
 IsServed (call.SwapIn space at len) = Unit {0}
-IsServed (call.Txn space at len ops) = ⊥
+IsServed (call.Txn space at len ops) = Unit {0}

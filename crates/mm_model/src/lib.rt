@@ -8,6 +8,7 @@ mod plain;
 mod spaces;
 mod step;
 mod swapping;
+mod transactions;
 
 pub use plain::Plain;
 pub use step::StepFault;

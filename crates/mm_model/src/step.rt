@@ -101,13 +101,18 @@ impl Plain {
             Call::Exit { space } => Ok(self.exit(*space)),
             Call::SwapOut { space, at, len } => Ok(self.swap_out(*space, *at, *len)),
             Call::SwapIn { space, at, len } => Ok(self.swap_in(*space, *at, *len)),
-            Call::Txn { .. } => unreachable!(),
+            Call::Txn {
+                space,
+                at,
+                len,
+                ops,
+            } => self.transact(alloc, *space, *at, *len, ops, limbo),
         }
     }
 
     /// Makes a call for a thread, where so many page tables are in limbo, and gives its reply.
     ///
-    /// The calls are all but `txn`; an access is of 1 to 4,096 bytes, and a thread's number is below 8.
+    /// An access is of 1 to 4,096 bytes, and a thread's number is below 8.
     pub fn step(
         &mut self,
         alloc: Global,

@@ -20,6 +20,12 @@ const READ_WRITE: Perm = Perm {
     exec: false,
 };
 
+const READ_ONLY: Perm = Perm {
+    read: true,
+    write: false,
+    exec: false,
+};
+
 /// A call on a space, an access being of two bytes.
 #[derive(Clone, Copy)]
 enum Asked {
@@ -32,6 +38,11 @@ enum Asked {
     Load(u64),
     Store(u64),
     Fault(u64, bool),
+    Spawn,
+    Fork,
+    Exit,
+    Out(u64, u64),
+    In(u64, u64),
 }
 
 /// A mapping with read and write permissions.
@@ -79,6 +90,11 @@ fn call_of(alloc: Global, space: SpaceId, asked: Asked) -> Result<Call, AllocErr
             bytes: ByteList::of(alloc, b"ab")?,
         }),
         Asked::Fault(at, write) => Ok(Call::Fault { space, at, write }),
+        Asked::Spawn => Ok(Call::Spawn),
+        Asked::Fork => Ok(Call::Fork { space }),
+        Asked::Exit => Ok(Call::Exit { space }),
+        Asked::Out(at, len) => Ok(Call::SwapOut { space, at, len }),
+        Asked::In(at, len) => Ok(Call::SwapIn { space, at, len }),
     }
 }
 
@@ -96,6 +112,11 @@ enum Wanted {
     Exists(u64),
     Hole(u64),
     NoFrames(u32, u32),
+    Space(u8),
+    NoSpaces,
+    NoTables(u32, u64),
+    Moved(u32),
+    NoSwap(u32, u32),
 }
 
 fn is_wanted(reply: &Reply, wanted: Wanted) -> bool {
@@ -111,49 +132,65 @@ fn is_wanted(reply: &Reply, wanted: Wanted) -> bool {
         Wanted::Exists(at) => *reply == Reply::Exists(at),
         Wanted::Hole(at) => *reply == Reply::Hole(at),
         Wanted::NoFrames(free, need) => *reply == Reply::NoFrames { free, need },
+        Wanted::Space(new) => *reply == Reply::Space(new),
+        Wanted::NoSpaces => *reply == Reply::NoSpaces,
+        Wanted::NoTables(linked, need) => {
+            *reply
+                == Reply::NoTables {
+                    linked,
+                    limbo: 0,
+                    need,
+                }
+        }
+        Wanted::Moved(pages) => *reply == Reply::Moved(pages),
+        Wanted::NoSwap(free, need) => *reply == Reply::NoSwap { free, need },
     }
 }
 
-/// Whether thread 0 gets this reply.
-fn answers(
-    alloc: Global,
-    plain: &mut Plain,
-    space: SpaceId,
-    asked: Asked,
-    wanted: Wanted,
-) -> Result<bool, StepFault> {
+/// A call on the space of this number, and the reply that thread 0 gets.
+type Step = (u8, Asked, Wanted);
+
+/// Whether the space has the number, and thread 0 gets the reply.
+fn answers(alloc: Global, plain: &mut Plain, step: Step) -> Result<bool, StepFault> {
+    let (number, asked, wanted) = step;
+    let Some(space) = SpaceId::new(number) else {
+        return Ok(false);
+    };
     let call = call_of(alloc, space, asked)?;
     let reply = plain.step(alloc, 0, &call, 0)?;
     Ok(is_wanted(&reply, wanted))
 }
 
+/// How many of these steps are as they are told, up to the first that is not.
+fn right_steps(alloc: Global, plain: &mut Plain, steps: &[Step]) -> Result<usize, StepFault> {
+    for (place, step) in steps.iter().enumerate() {
+        if !answers(alloc, plain, *step)? {
+            return Ok(place);
+        }
+    }
+    Ok(steps.len())
+}
+
 #[test]
 fn replies(rt: HostRuntime) -> Result<(), Fail> {
+    const STEPS: [Step; 9] = [
+        (0, Asked::Map(0, READ_WRITE), Wanted::Einval),
+        (63, Asked::Map(1, READ_WRITE), Wanted::NoSpace),
+        (0, Asked::Map(1 << 40, READ_WRITE), Wanted::NoRoom),
+        (0, Asked::Load(BASE), Wanted::Segv(BASE)),
+        (0, Asked::Map(8192, READ_WRITE), Wanted::At(BASE)),
+        (0, Asked::Store(BASE + 4095), Wanted::NoFrames(1, 2)),
+        (0, Asked::Store(BASE), Wanted::Ok),
+        (0, Asked::Map(1, READ_ONLY), Wanted::At(BASE + 8192)),
+        (0, Asked::Store(BASE + 8192), Wanted::Denied(BASE + 8192)),
+    ];
     let limits = Limits {
         frames: 1,
         tables: 8,
         swap: 1,
     };
     let mut plain = Plain::new(rt.alloc(), limits, Shelf::new(rt.alloc()))?;
-    let present = SpaceId::new(0).ok_or("0 is a space")?;
-    let absent = SpaceId::new(63).ok_or("63 is a space")?;
-    for (space, asked, wanted) in [
-        (present, Asked::Map(0, READ_WRITE), Wanted::Einval),
-        (absent, Asked::Map(1, READ_WRITE), Wanted::NoSpace),
-        (present, Asked::Map(1 << 40, READ_WRITE), Wanted::NoRoom),
-        (present, Asked::Load(BASE), Wanted::Segv(BASE)),
-        (present, Asked::Map(8192, READ_WRITE), Wanted::At(BASE)),
-        (present, Asked::Store(BASE + 4095), Wanted::NoFrames(1, 2)),
-        (present, Asked::Store(BASE), Wanted::Ok),
-        (present, Asked::Map(1, Perm::R), Wanted::At(BASE + 8192)),
-        (
-            present,
-            Asked::Store(BASE + 8192),
-            Wanted::Denied(BASE + 8192),
-        ),
-    ] {
-        assert!(rt; answers(rt.alloc(), &mut plain, space, asked, wanted)?);
-    }
+    assert_eq!(rt; right_steps(rt.alloc(), &mut plain, &STEPS)?, STEPS.len());
     Ok(())
 }
 
@@ -185,29 +222,31 @@ fn page_tables_that_are_not_there(rt: HostRuntime) -> Result<(), Fail> {
 
 #[test]
 fn mapping_operations(rt: HostRuntime) -> Result<(), Fail> {
+    const STEPS: [Step; 12] = [
+        (0, Asked::MapAt(AT, 8192), Wanted::At(AT)),
+        (0, Asked::MapNew(61440, 12288), Wanted::Einval),
+        (0, Asked::MapNew(AT + 4096, 4096), Wanted::Exists(AT + 4096)),
+        (0, Asked::Store(AT), Wanted::Ok),
+        (0, Asked::MapAt(AT, 4096), Wanted::At(AT)),
+        (0, Asked::Fault(AT, false), Wanted::Ok),
+        (
+            0,
+            Asked::Protect(AT, 12288, READ_ONLY),
+            Wanted::Hole(AT + 8192),
+        ),
+        (0, Asked::Protect(AT, 8192, READ_ONLY), Wanted::Ok),
+        (0, Asked::Fault(AT, true), Wanted::Denied(AT)),
+        (0, Asked::Unmap(1, 4096), Wanted::Einval),
+        (0, Asked::Unmap(AT, 1 << 46), Wanted::Ok),
+        (0, Asked::Load(AT), Wanted::Segv(AT)),
+    ];
     let limits = Limits {
         frames: 1,
         tables: 8,
         swap: 1,
     };
     let mut plain = Plain::new(rt.alloc(), limits, Shelf::new(rt.alloc()))?;
-    let space = SpaceId::new(0).ok_or("0 is a space")?;
-    for (asked, wanted) in [
-        (Asked::MapAt(AT, 8192), Wanted::At(AT)),
-        (Asked::MapNew(61440, 12288), Wanted::Einval),
-        (Asked::MapNew(AT + 4096, 4096), Wanted::Exists(AT + 4096)),
-        (Asked::Store(AT), Wanted::Ok),
-        (Asked::MapAt(AT, 4096), Wanted::At(AT)),
-        (Asked::Fault(AT, false), Wanted::Ok),
-        (Asked::Protect(AT, 12288, Perm::R), Wanted::Hole(AT + 8192)),
-        (Asked::Protect(AT, 8192, Perm::R), Wanted::Ok),
-        (Asked::Fault(AT, true), Wanted::Denied(AT)),
-        (Asked::Unmap(1, 4096), Wanted::Einval),
-        (Asked::Unmap(AT, 1 << 46), Wanted::Ok),
-        (Asked::Load(AT), Wanted::Segv(AT)),
-    ] {
-        assert!(rt; answers(rt.alloc(), &mut plain, space, asked, wanted)?);
-    }
+    assert_eq!(rt; right_steps(rt.alloc(), &mut plain, &STEPS)?, STEPS.len());
     let accounts = plain.accounts(0);
     assert_eq!(rt; (accounts.frames_free, accounts.linked), (1, 3));
     Ok(())
@@ -215,6 +254,11 @@ fn mapping_operations(rt: HostRuntime) -> Result<(), Fail> {
 
 #[test]
 fn file_page_and_past_its_end(rt: HostRuntime) -> Result<(), Fail> {
+    const STEPS: [Step; 3] = [
+        (0, Asked::MapFile(65536, 8192), Wanted::At(65536)),
+        (0, Asked::Load(69632), Wanted::Bus(69632)),
+        (0, Asked::Load(69631), Wanted::Bus(69632)),
+    ];
     let limits = Limits {
         frames: 2,
         tables: 8,
@@ -224,16 +268,119 @@ fn file_page_and_past_its_end(rt: HostRuntime) -> Result<(), Fail> {
     let hello = Vec::from_slice(rt.alloc(), b"hello")?;
     shelf.add(hello)?;
     let mut plain = Plain::new(rt.alloc(), limits, shelf)?;
+    assert_eq!(rt; right_steps(rt.alloc(), &mut plain, &STEPS)?, STEPS.len());
     let space = SpaceId::new(0).ok_or("0 is a space")?;
-    for (asked, wanted) in [
-        (Asked::MapFile(65536, 8192), Wanted::At(65536)),
-        (Asked::Load(69632), Wanted::Bus(69632)),
-        (Asked::Load(69631), Wanted::Bus(69632)),
-    ] {
-        assert!(rt; answers(rt.alloc(), &mut plain, space, asked, wanted)?);
-    }
     let call = call_of(rt.alloc(), space, Asked::Load(65540))?;
     let bytes = ByteList::of(rt.alloc(), b"o\0")?;
+    assert_eq!(rt; plain.step(rt.alloc(), 0, &call, 0)?, Reply::Bytes(bytes));
+    Ok(())
+}
+
+#[test]
+fn fork_copies_on_write_and_the_last_owner_writes_in_place(rt: HostRuntime) -> Result<(), Fail> {
+    const STEPS: [Step; 11] = [
+        (0, Asked::MapAt(AT, 4096), Wanted::At(AT)),
+        (0, Asked::Store(AT), Wanted::Ok),
+        (1, Asked::Fork, Wanted::NoSpace),
+        (0, Asked::Fork, Wanted::Space(1)),
+        (1, Asked::Fault(AT, false), Wanted::Ok),
+        (1, Asked::Store(AT), Wanted::NoFrames(0, 1)),
+        (1, Asked::Exit, Wanted::Ok),
+        (1, Asked::Exit, Wanted::NoSpace),
+        (0, Asked::Store(AT), Wanted::Ok),
+        (0, Asked::Fork, Wanted::Space(1)),
+        (0, Asked::Exit, Wanted::Ok),
+    ];
+    let limits = Limits {
+        frames: 1,
+        tables: 8,
+        swap: 0,
+    };
+    let mut plain = Plain::new(rt.alloc(), limits, Shelf::new(rt.alloc()))?;
+    assert_eq!(rt; right_steps(rt.alloc(), &mut plain, &STEPS)?, STEPS.len());
+    let accounts = plain.accounts(0);
+    assert_eq!(rt; (accounts.frames_free, accounts.linked), (0, 4));
+    Ok(())
+}
+
+#[test]
+fn a_new_space_wants_page_tables(rt: HostRuntime) -> Result<(), Fail> {
+    const STEPS: [Step; 5] = [
+        (0, Asked::MapAt(AT, 4096), Wanted::At(AT)),
+        (0, Asked::Fork, Wanted::NoTables(4, 4)),
+        (0, Asked::Spawn, Wanted::Space(1)),
+        (0, Asked::Exit, Wanted::Ok),
+        (1, Asked::Fork, Wanted::Space(0)),
+    ];
+    let limits = Limits {
+        frames: 1,
+        tables: 5,
+        swap: 0,
+    };
+    let mut plain = Plain::new(rt.alloc(), limits, Shelf::new(rt.alloc()))?;
+    assert_eq!(rt; right_steps(rt.alloc(), &mut plain, &STEPS)?, STEPS.len());
+    assert_eq!(rt; plain.accounts(0).linked, 2);
+    Ok(())
+}
+
+#[test]
+fn all_spaces_present(rt: HostRuntime) -> Result<(), Fail> {
+    const STEPS: [Step; 5] = [
+        (0, Asked::Spawn, Wanted::NoSpaces),
+        (0, Asked::Fork, Wanted::NoSpaces),
+        (7, Asked::Exit, Wanted::Ok),
+        (5, Asked::Exit, Wanted::Ok),
+        (0, Asked::Spawn, Wanted::Space(5)),
+    ];
+    let limits = Limits {
+        frames: 1,
+        tables: 64,
+        swap: 0,
+    };
+    let mut plain = Plain::new(rt.alloc(), limits, Shelf::new(rt.alloc()))?;
+    for new in 1..64 {
+        assert!(rt;
+            answers(
+                rt.alloc(),
+                &mut plain,
+                (0, Asked::Spawn, Wanted::Space(new))
+            )?
+        );
+    }
+    assert_eq!(rt; right_steps(rt.alloc(), &mut plain, &STEPS)?, STEPS.len());
+    Ok(())
+}
+
+#[test]
+fn out_and_in_again(rt: HostRuntime) -> Result<(), Fail> {
+    const STEPS: [Step; 16] = [
+        (0, Asked::MapAt(AT, 8192), Wanted::At(AT)),
+        (0, Asked::Store(AT), Wanted::Ok),
+        (0, Asked::Out(AT + 1, 4096), Wanted::Einval),
+        (9, Asked::Out(AT, 4096), Wanted::NoSpace),
+        (0, Asked::Out(AT, 8192), Wanted::Moved(1)),
+        (0, Asked::Store(AT + 4096), Wanted::Ok),
+        (0, Asked::Out(AT, 8192), Wanted::NoSwap(0, 1)),
+        (0, Asked::In(AT, 8192), Wanted::NoFrames(0, 1)),
+        (0, Asked::In(AT, 0), Wanted::Einval),
+        (9, Asked::In(AT, 4096), Wanted::NoSpace),
+        (0, Asked::Unmap(AT + 4096, 4096), Wanted::Ok),
+        (0, Asked::Fork, Wanted::Space(1)),
+        (1, Asked::In(AT, 4096), Wanted::Moved(1)),
+        (0, Asked::Exit, Wanted::Ok),
+        (1, Asked::Fork, Wanted::Space(0)),
+        (1, Asked::Out(AT, 4096), Wanted::Moved(0)),
+    ];
+    let limits = Limits {
+        frames: 1,
+        tables: 8,
+        swap: 1,
+    };
+    let mut plain = Plain::new(rt.alloc(), limits, Shelf::new(rt.alloc()))?;
+    assert_eq!(rt; right_steps(rt.alloc(), &mut plain, &STEPS)?, STEPS.len());
+    let space = SpaceId::new(0).ok_or("0 is a space")?;
+    let call = call_of(rt.alloc(), space, Asked::Load(AT))?;
+    let bytes = ByteList::of(rt.alloc(), b"ab")?;
     assert_eq!(rt; plain.step(rt.alloc(), 0, &call, 0)?, Reply::Bytes(bytes));
     Ok(())
 }

@@ -9,7 +9,8 @@ use Rattle.text_words.specs.Spelling.{number}
 use Rattle.text_words.specs.Layout.{IsWord, joined, words_of}
 use Rattle.text_words.proofs.WordLists.{joined-words_of, words_of-joined}
 use Rattle.mm_script.specs.CallLine.{call_line, IsCall, IsWithin}
-use Rattle.mm_script.specs.ScriptText.{limit_words, limit_lines, file_line, file_lines, header_lines, thread_lines, script_lines, most_threads, AreLimits, IsFile, AreFiles, AreThreads, IsScript, Begins}
+use Rattle.mm_script.specs.ScriptText.{limit_words, limit_lines, file_line, file_lines, header_lines, thread_lines, script_lines, most_threads, AreLimits, IsFile, AreFiles, AreThreads, IsScript}
+use Rattle.mm_script.specs.Reading.{Begins}
 use Rattle.mm_script.specs.declared.script.Script.{Script}
 use Rattle.mm_script.proofs.OneCall.{HasNo_letters, length_word_has_no}
 use Rattle.mm_script.proofs.Following.{AfterFiles, after_files, after_threads, first_thread, no_file, no_call}

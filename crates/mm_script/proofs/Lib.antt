@@ -1,6 +1,7 @@
 pub mod Beginnings
 pub mod CallForms
 pub mod FileLines
+pub mod FirstFault
 pub mod Following
 pub mod OneCall
 pub mod OneScript

@@ -1,22 +1,22 @@
--- A text has one script at most, and none where a line is outside the grammar.
-use Rattle.std.proofs.Common.{◌≡◌, ◌≢◌, ℕ, ◌+◌, ◌<◌, ◌≤◌, List, [], ◌∷◌, ◌++◌, length, map, codes, refl, sym, ap, subst, ◌∙◌, arith}
+-- A text has one script at most.
+use Rattle.std.proofs.Common.{◌≡◌, ◌≢◌, ℕ, ◌≤◌, List, [], ◌∷◌, ◌++◌, length, map, codes, refl, sym, ap, ◌∙◌, arith}
 use Rattle.std.specs.List.{All, flat_map}
 use Rattle.std.proofs.lemmas.List.{append-nil, append_assoc}
 use Rattle.std.proofs.lemmas.List.Elements.{All-nil, All-head, All-tail}
 use Rattle.corten_base.specs.declared.calls.Call.{Call}
 use Rattle.corten_base.specs.declared.numbers.Limits.{Limits}
-use Rattle.text_words.specs.Layout.{IsLine, ended, text, TextRest}
+use Rattle.text_words.specs.Layout.{text, TextRest}
 use Rattle.text_words.specs.Spelling.{number}
 use Rattle.text_words.proofs.OneValue.{number_injective}
-use Rattle.text_words.proofs.LineLists.{SameLines, one_list_of_lines, lines_go_on, fewer_lines, first_line, no_lines, no_cut}
+use Rattle.text_words.proofs.LineLists.{SameLines, one_list_of_lines}
 use Rattle.mm_script.specs.CallLine.{call_line, IsCall}
-use Rattle.mm_script.specs.ScriptText.{kept, limit_lines, file_lines, header_lines, thread_lines, script_lines, IsFile, IsScript, IsScriptText, Begins, Fault, IsFirstFault}
-use Rattle.mm_script.specs.Reading.{Passes, FaultFrom, lines_behind}
+use Rattle.mm_script.specs.ScriptText.{kept, limit_lines, file_lines, header_lines, thread_lines, script_lines, IsFile, IsScript, IsScriptText}
+use Rattle.mm_script.specs.Reading.{Passes, lines_behind}
 use Rattle.mm_script.specs.declared.script.Script.{Script}
 use Rattle.mm_script.proofs.OneCall.{call_line_injective}
 use Rattle.mm_script.proofs.FileLines.{file_line_injective, no_file_thread}
 use Rattle.mm_script.proofs.Following.{no_call_thread}
-use Rattle.mm_script.proofs.Places.{kept-append, Passes-append}
+use Rattle.mm_script.proofs.Places.{Passes-append}
 
 -- no two scripts have the same lines
 same_files : (xs ys : List (List ℕ)) (ts us : List (List Call)) → All IsFile xs → All IsFile ys → file_lines xs ++ flat_map thread_lines ts ≡ file_lines ys ++ flat_map thread_lines us → (xs ≡ ys) × (flat_map thread_lines ts ≡ flat_map thread_lines us)
@@ -76,75 +76,6 @@ one_script bytes a b ha hb =
     one_list_of_lines hb.lines [] ha.lines [] hb.are_lines ha.are_lines none none
     (append-nil (text hb.lines) ∙ sym hb.whole ∙ ha.whole ∙ sym (append-nil (text ha.lines))) in
     script_lines_injective b a hb.is_script ha.is_script (sym hb.are_kept ∙ ap kept same.lines ∙ ha.are_kept)
-
--- a fault, counted from the first line
-pub first_fault : (bytes : List ℕ) (old : TextRest) (n : ℕ) → old.bytes ≡ bytes → old.taken ≡ 0 → FaultFrom old [] n → IsFirstFault bytes n
-first_fault bytes old n are first h = record {
-  before = h.between;
-  rest = h.rest;
-  are_lines = h.are_lines;
-  parted = sym are ∙ h.parted;
-  counted = let c : n ≡ old.taken + length h.between + 1 = h.counted in omega arith;
-  begins = h.begins;
-  fault = h.fault;
-}
-
--- the line of a fault, where a text has these lines behind those before it
-line_behind : (before more others : List (List ℕ)) (line : List ℕ) → more ≡ line ∷ others → (kept before ++ kept (line ∷ [])) ++ kept others ≡ kept (before ++ more)
-line_behind before more others line are =
-    append_assoc (kept before) (kept (line ∷ [])) (kept others)
-    ∙ ap (λ ls. kept before ++ ls) (sym (kept-append (line ∷ []) others))
-    ∙ sym (kept-append before (line ∷ others))
-    ∙ ap (λ ls. kept (before ++ ls)) (sym are)
-
--- no text that goes on behind a fault begins a script
-no_more_behind : (before more : List (List ℕ)) (rest behind : List ℕ) → All IsLine more → more ≢ [] → rest ≡ text more ++ behind → Fault (kept before) rest → ¬ (Begins (kept (before ++ more)))
-no_more_behind before more rest behind are_lines some rest_is (Fault.outside line after is_line parted ends) b =
-    let first = first_line line after more behind is_line are_lines some (sym parted ∙ rest_is) in
-    let shape = line_behind before more first.others line first.are in
-    let whole : (kept before ++ kept (line ∷ [])) ++ (kept first.others ++ b.more) ≡ script_lines b.script =
-    sym (append_assoc (kept before ++ kept (line ∷ [])) (kept first.others) b.more) ∙ ap (λ ls. ls ++ b.more) shape ∙ b.goes_on in
-    ends (record { script = b.script; more = kept first.others ++ b.more; is_script = b.is_script; goes_on = whole })
-no_more_behind before more rest behind are_lines some rest_is (Fault.unfinished is_line nonempty) b =
-    some (no_lines rest more behind is_line rest_is)
-no_more_behind before more rest behind are_lines some rest_is (Fault.missing none wanting) b =
-    some (no_lines rest more behind (subst IsLine (sym none) (All-nil (λ c. c ≢ 10))) rest_is)
-
--- no script has a text with a fault
-none_behind : (before more : List (List ℕ)) (rest : List ℕ) (script : Script) → IsScript script → All IsLine more → rest ≡ text more ++ [] → kept (before ++ more) ≡ script_lines script → Fault (kept before) rest → ⊥
-none_behind before [] rest script is_script are_lines rest_is kept_is (Fault.outside line after is_line parted ends) =
-    let empty : ended line ++ after ≡ [] = sym parted ∙ rest_is in
-    absurd (no_cut 10 line after [] (All-nil (λ c. c ≢ 10)) (sym (append_assoc line (10 ∷ []) after) ∙ empty))
-none_behind before [] rest script is_script are_lines rest_is kept_is (Fault.unfinished is_line nonempty) = nonempty rest_is
-none_behind before [] rest script is_script are_lines rest_is kept_is (Fault.missing none wanting) = wanting script is_script (ap kept (sym (append-nil before)) ∙ kept_is)
-none_behind before (m ∷ more) rest script is_script are_lines rest_is kept_is f =
-    no_more_behind before (m ∷ more) rest [] are_lines (λ e. cc) rest_is f
-    (record { script = script; more = []; is_script = is_script; goes_on = append-nil (kept (before ++ m ∷ more)) ∙ kept_is })
-
-pub fault_refuses : (bytes : List ℕ) (n : ℕ) (script : Script) → IsFirstFault bytes n → ¬ (IsScriptText bytes script)
-fault_refuses bytes n script h t =
-    let same : text h.before ++ h.rest ≡ text t.lines = sym h.parted ∙ t.whole in
-    let fewer = fewer_lines h.before h.rest t.lines h.are_lines t.are_lines same in
-    let on = lines_go_on h.before h.rest t.lines [] h.are_lines t.are_lines fewer (same ∙ sym (append-nil (text t.lines))) in
-    none_behind h.before on.more h.rest script t.is_script on.are_lines on.rest (ap kept (sym on.lines) ∙ t.are_kept) h.fault
-
--- a text has one first fault
-none_earlier : (bytes : List ℕ) (m n : ℕ) (h : IsFirstFault bytes m) (g : IsFirstFault bytes n) → length h.before < length g.before → ⊥
-none_earlier bytes m n h g less =
-    let on = lines_go_on h.before h.rest g.before g.rest h.are_lines g.are_lines (omega arith) (sym h.parted ∙ g.parted) in
-    let some : on.more ≢ [] = λ e. let same : length g.before ≡ length h.before = ap length (on.lines ∙ ap (λ ls. h.before ++ ls) e ∙ append-nil h.before) in omega arith in
-    no_more_behind h.before on.more h.rest g.rest on.are_lines some on.rest h.fault (subst (λ ls. Begins (kept ls)) on.lines g.begins)
-
-pub one_first_fault : (bytes : List ℕ) (m n : ℕ) → IsFirstFault bytes m → IsFirstFault bytes n → m ≡ n
-one_first_fault bytes m n h g =
-    let first : m ≡ length h.before + 1 = h.counted in
-    let second : n ≡ length g.before + 1 = g.counted in
-    let not_less : length g.before ≤ length h.before = at_most (length h.before) (length g.before) (none_earlier bytes m n h g) in
-    let not_more : length h.before ≤ length g.before = at_most (length g.before) (length h.before) (none_earlier bytes n m g h) in
-    omega arith
-  where
-    at_most : (a b : ℕ) → (a < b → ⊥) → b ≤ a
-    at_most a b none = omega (arith, none)
 
 -- the threads' lines, from the first one on
 first_thread_line : (threads : List (List Call)) → 1 ≤ length threads → flat_map thread_lines threads ≡ codes "thread" ∷ lines_behind threads

@@ -4,11 +4,11 @@ use Rattle.std.proofs.lemmas.List.{append_assoc, append-nil, length-append}
 use Rattle.std.proofs.lemmas.List.Elements.{All-nil, All-append, All-push, filter-append}
 use Rattle.text_words.specs.Layout.{IsLine, ended, text, TextRest}
 use Rattle.text_words.proofs.LineLists.{text-append, text_push}
-use Rattle.mm_script.specs.ScriptText.{is_skipped, kept, Begins, Fault, IsScript, script_lines, IfBad}
+use Rattle.mm_script.specs.ScriptText.{is_skipped, kept, IsScript, script_lines, IfBad}
 use Rattle.mm_script.specs.declared.fault.ScriptFault.{ScriptFault}
 use Rattle.mm_script.specs.declared.fault.ScriptFault.TheVariants as fault
 use Rattle.mm_script.specs.declared.script.Script.{Script}
-use Rattle.mm_script.specs.Reading.{NextLine, NoNext, NoLine, Passes, FaultFrom}
+use Rattle.mm_script.specs.Reading.{NextLine, NoNext, NoLine, Passes, FaultFrom, Begins, Fault}
 
 pub kept-append : (xs ys : List (List ℕ)) → kept (xs ++ ys) ≡ kept xs ++ kept ys
 kept-append xs ys = filter-append (λ line. not (is_skipped line)) xs ys

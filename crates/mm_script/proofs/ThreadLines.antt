@@ -7,8 +7,8 @@ use Rattle.corten_base.specs.declared.calls.Call.{Call}
 use Rattle.corten_base.specs.declared.numbers.Limits.{Limits}
 use Rattle.text_words.specs.Layout.{TextRest}
 use Rattle.mm_script.specs.CallLine.{call_line, IsCall}
-use Rattle.mm_script.specs.ScriptText.{limit_lines, file_line, file_lines, header_lines, thread_lines, most_threads, AreLimits, IsFile, AreFiles, Begins}
-use Rattle.mm_script.specs.Reading.{NextLine, NoNext, NoLine, Passes, FaultFrom, lines_behind}
+use Rattle.mm_script.specs.ScriptText.{limit_lines, file_line, file_lines, header_lines, thread_lines, most_threads, AreLimits, IsFile, AreFiles}
+use Rattle.mm_script.specs.Reading.{NextLine, NoNext, NoLine, Passes, FaultFrom, lines_behind, Begins}
 use Rattle.mm_script.proofs.Beginnings.{open_lines, Begins-header, Begins-calls, no_header, no_line, wants_thread}
 use Rattle.mm_script.proofs.Places.{Passes-none, Passes-next, Passes-append, Passes-end, FaultFrom-behind, FaultFrom-next, fault_at_line, fault_unfinished}
 

@@ -5,14 +5,15 @@
 --     script_lines      the lines of a script
 --     IsScript      the bounds of a script
 --     IsScriptText      bytes that are the text of a script
---     Begins      lines with which a script begins
---     Fault, IsFirstFault      why a line is outside the grammar, and the first such line
-use Rattle.std.specs.Prelude.{◌≡◌, ◌≢◌, ℕ, ◌+◌, ◌<◌, ◌≤◌, ◌==◌, Bool, true, not, ⊤, List, [], ◌∷◌, ◌++◌, length, map, filter, codes, All}
+--     AreScriptLines      the grammar: lines that are those of some script, and lines that are skipped
+--     IsFirstFault      the first line outside the grammar
+use Rattle.std.specs.Prelude.{◌≡◌, ℕ, ◌<◌, ◌≤◌, ◌==◌, Bool, true, not, ⊤, List, [], ◌∷◌, ◌++◌, length, map, filter, codes, All}
 use Rattle.std.specs.List.{flat_map}
 use Rattle.corten_base.specs.declared.calls.Call.{Call}
 use Rattle.corten_base.specs.declared.numbers.Limits.{Limits}
 use Rattle.text_words.specs.Spelling.{number, hex}
-use Rattle.text_words.specs.Layout.{IsLine, joined, ended, text}
+use Rattle.text_words.specs.Grammar as grammar
+use Rattle.text_words.specs.Layout.{IsLine, joined, text}
 use Rattle.mm_script.specs.CallLine.{call_line, IsCall, IsWithin}
 use Rattle.mm_script.specs.declared.fault.ScriptFault.{ScriptFault}
 use Rattle.mm_script.specs.declared.fault.ScriptFault.TheVariants as fault
@@ -89,31 +90,14 @@ pub record IsScriptText (bytes : List ℕ) (script : Script) : Type 0 where
   pub are_kept : kept lines ≡ script_lines script
   pub is_script : IsScript script
 
--- some script has these lines, and then more
-pub record Begins (lines : List (List ℕ)) : Type 0 where
+-- lines of which those that are kept are the lines of a script
+pub record AreScriptLines (lines : List (List ℕ)) : Type 0 where
   pub script : Script
-  pub more : List (List ℕ)
   pub is_script : IsScript script
-  pub goes_on : lines ++ more ≡ script_lines script
+  pub are_kept : kept lines ≡ script_lines script
 
--- Why no script's text has these lines, and behind them these bytes.
-pub data Fault (lines : List (List ℕ)) (rest : List ℕ) : Type 0 where
-  -- no script begins with these lines and the next one
-  outside : (line more : List ℕ) → IsLine line → rest ≡ ended line ++ more → ¬ (Begins (lines ++ kept (line ∷ []))) → Fault lines rest
-  -- the next line has no newline
-  unfinished : IsLine rest → rest ≢ [] → Fault lines rest
-  -- the text ends before a line that must come
-  missing : rest ≡ [] → ((script : Script) → IsScript script → lines ≢ script_lines script) → Fault lines rest
-
--- Counted from 1, n is the number of the first line that is outside the grammar: some script begins with the lines before it.
-pub record IsFirstFault (bytes : List ℕ) (n : ℕ) : Type 0 where
-  pub before : List (List ℕ)
-  pub rest : List ℕ
-  pub are_lines : All IsLine before
-  pub parted : bytes ≡ text before ++ rest
-  pub counted : n ≡ length before + 1
-  pub begins : Begins (kept before)
-  pub fault : Fault (kept before) rest
+abbrev pub IsFirstFault : List ℕ → ℕ → Type 0
+IsFirstFault = grammar.IsFirstFault AreScriptLines
 
 -- a fact of the line that a fault names
 abbrev pub IfBad : ScriptFault → (ℕ → Type 0) → Type 0

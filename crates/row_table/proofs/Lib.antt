@@ -20,4 +20,6 @@ pub mod Marks
 pub mod Openings
 pub mod Links
 pub mod Sized
+pub mod Stock
+pub mod Grafts
 pub mod Visits

@@ -1,8 +1,6 @@
 -- Set entry and unlink keep the rule.
 use Rattle.std.proofs.Common.{◌≡◌, ◌≢◌, ℕ, zero, suc, ◌+◌, ◌*◌, ◌<◌, ◌≤◌, ◌⊎◌, eqb, not, cond, true, false, Bool, List, [], ◌∷◌, ◌++◌, map, length, get_or, set, sym, refl, ap, ◌∙◌, subst, inl, inr, ⊎_elim, arith, get_or-set_same, get_or-set_other, eq-eqb, ne_eqb, Option, Some, None}
 use Rattle.std.specs.List.{Contains, filter, range_with_len}
-use Rattle.std.proofs.lemmas.List.{length-map}
-use Rattle.std.proofs.lemmas.List.FromFn.{length-range_with_len}
 use mathlib.Core.Option.{some, none}
 use mathlib.Core.Logic.{dite}
 use native.Mathlib.Decide.{ℕ_discrete}
@@ -33,7 +31,7 @@ use Rattle.row_table.specs.Rows.{row_words, place_at, lock_of, generation_of}
 use Rattle.row_table.specs.Rule.{Seat, Table, levels_of, view, IsOne, row_part, hand_part, core_of, IsHeldRow, Knows, Holds}
 use Rattle.row_table.specs.Moves.{NotInHand}
 use Rattle.row_table.specs.Links.{with_word, newly_linked, with_link, word_set, link_set, entry_set, entry_cut, LinksHand, MaySetEntry, SetTells, MayUnlink, CutTells}
-use Rattle.row_table.proofs.Shown.{word_at}
+use Rattle.row_table.proofs.Shown.{word_at, words_long}
 use Rattle.row_table.proofs.Views.{kept, pass_is, held_of_row, has_held, is_linked}
 use Rattle.row_table.proofs.Turns.{same_parts, contained_map}
 use Rattle.row_table.proofs.Spans.{level_of, below_is, entry_page}
@@ -59,10 +57,6 @@ unfolding row_words
 words_set ws r i x inside near = sym (range_set (λ (j : ℕ). get_or ws (entry_at r j) 0) (λ (j : ℕ). get_or (set ws (515 * r + i) x) (entry_at r j) 0) 0 512 i x inside
     (let e : 515 * r + (0 + i) ≡ 515 * r + i = omega arith in ap (λ (j : ℕ). get_or (set ws (515 * r + i) x) j 0) e ∙ get_or-set_same ws (515 * r + i) x 0 near)
     (λ j ne. get_or-set_other ws (515 * r + i) (entry_at r j) x 0 (λ e. ne (omega arith))))
-
-words_long : (ws : List ℕ) (r : ℕ) → length (row_words ws r) ≡ 512
-unfolding row_words
-words_long ws r = length-map (range_with_len 0 512) (λ (j : ℕ). get_or ws (entry_at r j) 0) ∙ length-range_with_len 0 512
 
 -- rows other than one
 pub parts_without : {X : Type 0} (f : X → ℕ) (r : ℕ) (xs : List X) → map f (filter (λ x. not (eqb (f x) r)) xs) ≡ without r (map f xs)

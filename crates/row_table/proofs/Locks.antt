@@ -32,7 +32,7 @@ use Rattle.row_table.specs.Rows.{row_words, place_at, generation_of}
 use Rattle.row_table.specs.Rule.{Slot, Homes, Seat, levels_of, view, IsOne, row_part, core_of, Agrees, IsHeldRow, Knows, Holds}
 use Rattle.row_table.specs.Vacant.{KeepsVacant}
 use Rattle.row_table.specs.Moves.{grabbed, looked, got, released, NotInHand, GrabSays, GrabTells, ReleaseTells, MayGrab, Fits}
-use Rattle.row_table.proofs.Shown.{ShowSame, lock_shows}
+use Rattle.row_table.proofs.Shown.{words_long, ShowSame, lock_shows}
 use Rattle.row_table.proofs.Frames.{RowHome, moved_here, knows_shown, contents_locked, home_of, home_moves}
 use Rattle.row_table.proofs.Known.{held_below, place_known, generation_known, links_below, links_lead, right_now, loose_row, holder_of}
 use Rattle.row_table.proofs.Views.{kept, rows_without, pass_is, is_linked, not_in_hand, guard_grab, has_held}
@@ -148,6 +148,7 @@ module _ {R B E : Type 0} (M : Meaning R B E) where
                   generation = generation_of s.words r;
                   known_generation = generation_known M k first s h v mine r;
                   words = words;
+                  all = words_long s.words r;
                   below = links_below M k first s h v mine r less;
                   leads = links_lead M k first s h v mine r less;
                   content = t.0;

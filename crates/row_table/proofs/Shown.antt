@@ -1,7 +1,8 @@
 -- What the words show of rows and passes, where one word changes.
-use Rattle.std.proofs.Common.{◌≡◌, ◌≢◌, ℕ, zero, suc, ◌+◌, ◌*◌, ◌<◌, List, ◌∷◌, map, get_or, set, refl, ap, arith, get_or-set_other}
+use Rattle.std.proofs.Common.{◌≡◌, ◌≢◌, ℕ, zero, suc, ◌+◌, ◌*◌, ◌<◌, List, ◌∷◌, map, get_or, set, refl, ap, arith, get_or-set_other, length, ◌∙◌}
 use Rattle.std.specs.List.{range_with_len}
-use Rattle.std.proofs.lemmas.List.FromFn.{get_or-map-range_with_len}
+use Rattle.std.proofs.lemmas.List.{length-map}
+use Rattle.std.proofs.lemmas.List.FromFn.{get_or-map-range_with_len, length-range_with_len}
 use Rattle.walk_core.specs.Words.{entry_at, lock_at, position_at, generation_at, epoch_at, book_at, place_shown}
 use Rattle.row_layout.specs.declared.places.Layout.{Layout}
 use Rattle.row_table.specs.Rows.{row_words, place_at, generation_of}
@@ -15,6 +16,10 @@ same_on f g from (suc n) h = λ k. h from (omega arith) k ∷ same_on f g (from 
 pub word_at : (ws : List ℕ) (r i : ℕ) → i < 512 → get_or (row_words ws r) i 0 ≡ get_or ws (entry_at r i) 0
 unfolding row_words
 word_at ws r i h = get_or-map-range_with_len (λ (j : ℕ). get_or ws (entry_at r j) 0) 0 512 i i 0 h (let e : 0 + i ≡ i = omega arith in e)
+
+pub words_long : (ws : List ℕ) (r : ℕ) → length (row_words ws r) ≡ 512
+unfolding row_words
+words_long ws r = length-map (range_with_len 0 512) (λ (j : ℕ). get_or ws (entry_at r j) 0) ∙ length-range_with_len 0 512
 
 pub same_words : (ws us : List ℕ) (r : ℕ) → ((i : ℕ) → i < 512 → get_or us (entry_at r i) 0 ≡ get_or ws (entry_at r i) 0) → row_words us r ≡ row_words ws r
 unfolding row_words

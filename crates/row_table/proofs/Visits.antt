@@ -1,17 +1,19 @@
 -- What a caller of a pass knows after a grab, from the public clauses alone.
-use Rattle.std.proofs.Common.{◌≡◌, ◌≢◌, ℕ, ◌+◌, None, List, [], ◌∷◌, ◌++◌, sym, refl, ap, ◌∙◌, subst, inl, ⊎_elim, arith}
+use Rattle.std.proofs.Common.{◌≡◌, ◌≢◌, ℕ, None, List, [], ◌∷◌, ◌++◌, sym, refl, ap, ◌∙◌, subst, inl, ⊎_elim, arith}
 use Rattle.std.specs.List.{Contains}
 use Rattle.std.proofs.lemmas.List.Elements.{Contains-append_right}
 use Rattle.table_place.specs.declared.Place.{Place}
+use Rattle.table_place.specs.Place.{entry_place}
 use Rattle.walk_core.specs.Lists.{times, Has}
 use Rattle.walk_core.proofs.RowLists.{times-nil, times_one_same}
 use Rattle.row_table.specs.declared.view.PassView.{PassView}
 use Rattle.row_table.specs.Plan.{Meaning}
-use Rattle.row_table.specs.Known.{IsHolder}
+use Rattle.row_table.specs.Rule.{levels_of}
+use Rattle.row_table.specs.Known.{IsHolder, LinksRow}
 use Rattle.row_table.specs.declared.view.Finding.{Finding}
-use Rattle.row_table.specs.Moves.{finding, grabbed, looked, got, released, Fits}
+use Rattle.row_table.specs.Moves.{finding, grabbed, looked, got, released, Finds, Fits}
 use Rattle.row_table.specs.Crossings.{left}
-use Rattle.row_table.specs.Uses.{IsStanding, HasFound}
+use Rattle.row_table.specs.Uses.{IsStanding, HasFound, HoldsAt}
 
 last_found : (l : List Finding) (f : Finding) → Contains (l ++ f ∷ []) f
 last_found l f = Contains-append_right l (f ∷ []) f (0, omega arith, refl)
@@ -52,3 +54,12 @@ module _ {R B E : Type 0} where
 
   pub found_missed : (v u w : PassView R B E) (row n : ℕ) (place : Place) → u ≡ looked v row place None n → w ≡ left u → HasFound w row n
   found_missed v u w row n place e f = subst (λ (z : PassView R B E). HasFound z row n) (sym (f ∙ ap left e)) (place, last_found v.findings (finding row place None n))
+
+  -- a row that was got where a held row links it
+  pub got_child : (v w : PassView R B E) (row : ℕ) (f : Finds row v) (x : R) → w ≡ got v row f.place f.generation f.words x → (l : LinksRow v row) → HoldsAt w row (entry_place (levels_of v.layout) l.linker.place l.index)
+  got_child v w row f x e l = subst (λ (z : PassView R B E). HoldsAt z row (entry_place (levels_of v.layout) l.linker.place l.index)) (sym e) (record {
+    known = grabbed row f.place f.generation f.words x;
+    held = Contains-append_right v.rows (grabbed row f.place f.generation f.words x ∷ []) (grabbed row f.place f.generation f.words x) (0, omega arith, refl);
+    same_row = refl;
+    same_place = f.known.of_entry l;
+  })

@@ -17,3 +17,4 @@ pub mod Uses
 pub mod Start
 pub mod Passes
 pub mod Tally
+pub mod Stock

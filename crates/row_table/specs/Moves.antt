@@ -5,7 +5,7 @@
 --     GrabSays, GrabTells, ReleaseTells      what a step tells its seat
 --     NotInHand, MayGrab      a row is not in the pass's hand;  when a pass may grab
 --     Fits, MayRelease      a content that may stand in a row;  when a pass may release
-use Rattle.std.specs.Prelude.{◌≡◌, ◌≢◌, ℕ, ◌<◌, ◌≤◌, not, true, false, ◌⊎◌, List, [], ◌∷◌, ◌++◌, nat_eq, Option, None, Some}
+use Rattle.std.specs.Prelude.{◌≡◌, ◌≢◌, ℕ, ◌<◌, ◌≤◌, not, true, false, ◌⊎◌, List, [], ◌∷◌, ◌++◌, nat_eq, Option, None, Some, length}
 use Rattle.std.specs.List.{Contains, filter}
 use Rattle.atomic_table.specs.Table.{Step, rest}
 use Rattle.table_place.specs.declared.Place.{Place}
@@ -44,7 +44,7 @@ module _ {R B E : Type 0} where
   abbrev pub NotInHand : PassView R B E → ℕ → Type 0
   NotInHand v row = times_in_hand row v.core ≡ 0
 
-  -- what a grab that took the row found: its position, its generation, its entry words and its content. The row is linked, and the pass did not hold it
+  -- what a grab that took the row found: its position, its generation, its 512 entry words and its content. The row is linked, and the pass did not hold it
   pub record Finds (row : ℕ) (v : PassView R B E) : Type 0 where
     pub right : IsRight v
     pub there : row < v.layout.rows
@@ -53,6 +53,7 @@ module _ {R B E : Type 0} where
     pub generation : ℕ
     pub known_generation : IsKnownGeneration v row generation
     pub words : List ℕ
+    pub all : length words ≡ 512
     pub below : LinksBelow v.layout.rows words
     pub leads : LinksLead (levels_of v.layout) place words
     pub content : R

@@ -1,5 +1,6 @@
 -- What a caller of a pass knows of it, in the public words alone.
 --     IsStanding      a pass that stands on this row and has nothing
+--     HoldsAt      a pass that holds this row at this position
 --     HasFound      a grab or a look since the pass entered found this word in the row's lock word
 --     Touched, LookedIn      what a grab that was told found, and what a pass that came and went has done
 use Rattle.std.specs.Prelude.{◌≡◌, ℕ, ◌+◌, false, [], Some, None}
@@ -8,6 +9,7 @@ use Rattle.table_place.specs.declared.Place.{Place}
 use Rattle.walk_core.specs.declared.pass.Stand.{Stand}
 use Rattle.walk_core.specs.Words.{held_by, stale}
 use Rattle.row_table.specs.declared.view.PassView.{PassView}
+use Rattle.row_table.specs.declared.view.HeldRow.{HeldRow}
 use Rattle.row_table.specs.declared.uses.Visit.{Visit}
 use Rattle.row_table.specs.declared.uses.Visit.TheVariants.{Got, Held, Stale, Worn}
 use Rattle.row_table.specs.Moves.{finding}
@@ -21,6 +23,13 @@ module _ {R B E : Type 0} where
     pub granted : v.core.granted ≡ []
     pub unlinked : v.core.unlinked ≡ []
     pub has_not : v.core.has_book ≡ false
+
+  -- the pass holds the row, at this position
+  pub record HoldsAt (v : PassView R B E) (row : ℕ) (place : Place) : Type 0 where
+    pub known : HeldRow R
+    pub held : Contains v.rows known
+    pub same_row : known.row ≡ row
+    pub same_place : known.place ≡ place
 
   abbrev pub HasFound : PassView R B E → ℕ → ℕ → Type 0
   HasFound v row word = (place : Place) × Contains v.findings (finding row place None word)

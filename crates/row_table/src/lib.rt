@@ -6,6 +6,8 @@ mod boot;
 mod close;
 mod crossing;
 mod linking;
+#[cfg(test)]
+mod linking_tests;
 mod looking;
 mod marking;
 mod opening;

@@ -1,9 +1,12 @@
 //! Callers that rely on the public clauses alone.
-ghost use Rattle.std.specs.Prelude.{◌≡◌, ◌≢◌, ℕ, ◌+◌, ◌<◌, true, false, Some, MatchOption};
+ghost use Rattle.std.specs.Prelude.{◌≡◌, ◌≢◌, ℕ, ◌+◌, ◌<◌, true, false, Some, MatchOption, OnSome};
 ghost use Rattle.walk_core.specs.Words.{is_link, link_row, held_by};
 ghost use Rattle.row_table.specs.Passes.{view_of, number_of, table_of, IsPassOf};
 ghost use Rattle.row_table.specs.Close.{IsIdle};
-ghost use Rattle.row_table.specs.Uses.{IsStanding, Touched, LookedIn};
+ghost use Rattle.row_table.specs.Known.{LinksRow};
+ghost use Rattle.row_table.specs.Rule.{levels_of};
+ghost use Rattle.table_place.specs.Place.{entry_place};
+ghost use Rattle.row_table.specs.Uses.{IsStanding, Touched, LookedIn, HoldsAt};
 
 use crate::answers::{Grabbed, Turned};
 use crate::pass::Pass;
@@ -111,6 +114,20 @@ pub(crate) fn look_in<P: Plan>(iron: &Iron<P>, pass: &mut Pass<P>, first: u32, s
             touch(iron, pass, row)
         }
         Err(_) => Visit::Worn,
+    }
+}
+
+/// Takes a row that a held row links, if no other pass holds it. Nobody can have made it stale, and it is where the link leads.
+pub(crate) fn take_child<P: Plan>(iron: &Iron<P>, pass: &mut Pass<P>, row: u32) -> Option<P::Row>
+    requires table { IsPassOf iron.now pass.old }
+    requires linked { LinksRow (view_of pass.old) row }
+    ensures table { table_of pass.new ≡ table_of pass.old }
+    ensures child { (l : LinksRow (view_of pass.old) row) → OnSome result (HoldsAt (view_of pass.new) row (entry_place (levels_of (view_of pass.old).layout) l.linker.place l.index)) }
+{
+    match pass.grab(iron, row) {
+        Grabbed::Got(content) => Some(content),
+        Grabbed::Held(_) => None,
+        Grabbed::Stale => unreachable!(),
     }
 }
 

@@ -17,8 +17,11 @@ use plain_counts::{Owners, Tables};
 use plain_spaces::AddressSpace;
 use std::alloc::{AllocError, Global};
 
-/// Makes operations in order on the cells of a space, and puts in the page tables above the pages that they map. The work
-/// is that of the pages that are there, of those that are kept and of the ranges: only pages that are kept are made.
+/// Makes operations in order on the cells of a space, and puts in the page tables above the pages that they map.
+///
+/// Only pages that are kept are made. The tables above each mapping are looked up one by one, so a caller refuses first
+/// where they are too many (`tables_needed`); then the work is that of those tables, of the pages that are there, of those
+/// that are kept and of the pieces into which the ranges are cut.
 pub fn commit(
     alloc: Global,
     cells: &mut AddressSpace,

@@ -1,5 +1,6 @@
 //! What a transaction on the plain machine wants: which of its operations is refused first, the page tables that it
-//! needs, and the cells after it. The work is that of the pages that are there and of at most 16 ranges.
+//! needs, and the cells after it. A transaction is judged, and its tables are counted, in the time of what is there and
+//! of at most 33 pieces for each operation or level.
 #![tactic(auto)]
 
 mod act;

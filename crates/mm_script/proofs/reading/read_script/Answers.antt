@@ -6,12 +6,22 @@ use Rattle.text_words.specs.Layout.{TextRest}
 use Rattle.mm_script.specs.ScriptText.{limit_lines, file_lines, header_lines, IsScript, IsScriptText, IsFirstFault}
 use Rattle.mm_script.specs.Reading.{Passes, FaultFrom}
 use Rattle.mm_script.specs.declared.script.Script.{Script}
-use Rattle.mm_script.proofs.OneScript.{one_script, first_fault, fault_refuses, script_text}
+use Rattle.mm_script.proofs.FirstFault.{first_fault, fault_refuses}
+use Rattle.mm_script.proofs.OneScript.{one_script, script_text}
 use Rattle.mm_script.proofs.Places.{Passes-append, FaultFrom-behind, IfBad-weaker}
 use Rattle.mm_script.proofs.reading.read_script.Goals as goal
 
 abbrev NoScript : List ℕ → ℕ → Type 0
 NoScript bytes n = (script : Script) → ¬ (IsScriptText bytes script)
+
+pub returns-in_err-limits-clause-bad : goal.returns-in_err-limits-clause-bad
+returns-in_err-limits-clause-bad c =
+    let p = err_from_is_err_and c.from_residual.result c.from_residual.ensures.1 in
+    let bytes : List ℕ = c.args.bytes.now in
+    let old : TextRest = c.of-lines.result in
+    rw (p.1, p.2) (IfBad-weaker c.in_err-limits.field-0.0 _ (IsFirstFault bytes)
+    (λ n from. first_fault bytes old n c.of-lines.ensures.bytes c.of-lines.ensures.taken from)
+    c.in_err-limits.ensures.bad)
 
 pub returns-in_err-limits-clause-none : goal.returns-in_err-limits-clause-none
 returns-in_err-limits-clause-none c =
