@@ -222,3 +222,16 @@ fn a_process_with_a_fork(rt: HostRuntime) -> Result<(), Fail> {
     );
     Ok(())
 }
+
+#[test]
+fn transaction_undone(rt: HostRuntime) -> Result<(), Fail> {
+    let written = solo(
+        rt.alloc(),
+        "frames 2\ntables 8\nswap 1\nthread\ntxn 0 0x8000000000 8192 map at 0x8000000000 4096 rw- zero ; protect 0x8000000000 8192 r--\nload 0 0x8000000000 1\ntxn 0 0x8000000000 8192 map at 0x8000000000 8192 rw- zero ; protect 0x8000001000 4096 r--\nstore 0 0x8000000fff 6162\n",
+    )?;
+    assert_eq!(rt;
+        written.as_slice(),
+        b"corten 1\nframes 2\ntables 8\nswap 1\n0 txn 0 0x8000000000 8192 map at 0x8000000000 4096 rw- zero ; protect 0x8000000000 8192 r-- = undone 2 hole 0x8000001000\n0 load 0 0x8000000000 1 = segv 0x8000000000\n0 txn 0 0x8000000000 8192 map at 0x8000000000 8192 rw- zero ; protect 0x8000001000 4096 r-- = done\n0 store 0 0x8000000fff 6162 = denied 0x8000001000\nframes 2 free 2 mapped 0\nswap 1 free 1 used 0\ntables 8 linked 4 limbo 0\n".as_slice()
+    );
+    Ok(())
+}

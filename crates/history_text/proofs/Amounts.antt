@@ -1,7 +1,7 @@
 -- How many page tables calls need, and how many keys a range has.
-use Rattle.std.proofs.Common.{◌≡◌, ℕ, zero, suc, ◌+◌, ◌*◌, ◌^◌, ◌<◌, ◌≤◌, Bool, true, false, cond, List, [], ◌∷◌, ◌++◌, length, map, refl, sym, ap, subst, ◌∙◌, arith}
+use Rattle.std.proofs.Common.{◌≡◌, ℕ, zero, suc, ◌+◌, ◌*◌, ◌/◌, ◌^◌, ◌<◌, ◌≤◌, Bool, true, false, cond, List, [], ◌∷◌, ◌++◌, length, map, refl, sym, ap, subst, ◌∙◌, arith}
 use Rattle.std.specs.Prelude.{Option, Some, None, ◌&&◌, nat_lt, nat_le}
-use Rattle.std.specs.List.{filter, range_with_len, flat_map, sum_by}
+use Rattle.std.specs.List.{All, filter, range_with_len, flat_map, sum_by}
 use Rattle.std.specs.FinMap as fin
 use Rattle.std.specs.FinSet as set
 use Rattle.std.specs.FinSet.{len-empty, len-insert}
@@ -11,16 +11,22 @@ use Rattle.std.proofs.lemmas.List.{append-nil, length-append, length-map}
 use Rattle.std.proofs.lemmas.List.Concat.{length-flat_map}
 use Rattle.std.proofs.lemmas.List.Sums.{sum_by-cons}
 use Rattle.std.proofs.lemmas.List.FromFn.{length-map-range_with_len}
+use Rattle.std.proofs.lemmas.List.Elements.{All-head, All-tail}
+use Rattle.corten_base.specs.declared.calls.TxnOp.{TxnOp}
+use Rattle.corten_base.specs.declared.calls.TxnOp.TheVariants as op
 use Rattle.table_place.specs.declared.Place.{Place}
 use Rattle.table_place.specs.Range.{within}
 use Rattle.table_place.specs.Place.{place_cmp, above, above_in_level, pages_of, prefix_first, prefix_count}
 use Rattle.page_map.specs.Change.{keys_in}
+use Rattle.page_map.specs.State.{State}
+use Rattle.page_map.specs.Effect.{above_op}
 use Rattle.page_map.specs.Tables.{Tables, need}
 use Rattle.page_map.proofs.Need.{need_of_range, parts}
 use Rattle.page_map.proofs.Evaluate.{difference_empty}
 use Rattle.page_map.proofs.Places.{place_total, place_exact}
 use Rattle.page_map.proofs.Keys.{keys_in_more, chosen}
 use Rattle.page_map.proofs.Few.{sum_below}
+use Rattle.mm_script.specs.CallLine.{IsOp}
 
 -- ---- page tables
 
@@ -56,18 +62,32 @@ listed_few (k ∷ ks) =
 pub need_listed : (ks : List Place) (tables : Tables) → need ks tables ≤ length ks
 need_listed ks tables = omega (arith, parts place_total place_exact tables ks, listed_few ks)
 
--- the tables above single pages
-above_page : (space page : ℕ) → length (above 4 space page 1) ≤ 8
+-- the tables above a range of pages
+above_range : (space first count : ℕ) → length (above 4 space first count) ≤ 4 * count + 4
 unfolding above
-above_page space page =
-    let whole = length-flat_map (above_in_level space page 1) (range_with_len 1 4) in
-    let each : sum_by (λ level. length (above_in_level space page 1 level)) (range_with_len 1 4) ≡ sum_by (λ level. prefix_count level page 1) (range_with_len 1 4) =
-    λ i. sum_by (λ level. length-map-range_with_len (λ prefix. place_at space level prefix) (prefix_first level page) (prefix_count level page 1) i) (range_with_len 1 4) in
-    omega (arith, whole, each, few_prefixes page 1)
+above_range space first count =
+    let whole = length-flat_map (above_in_level space first count) (range_with_len 1 4) in
+    let each : sum_by (λ level. length (above_in_level space first count level)) (range_with_len 1 4) ≡ sum_by (λ level. prefix_count level first count) (range_with_len 1 4) =
+    λ i. sum_by (λ level. length-map-range_with_len (λ prefix. place_at space level prefix) (prefix_first level first) (prefix_count level first count) i) (range_with_len 1 4) in
+    omega (arith, whole, each, few_prefixes first count)
 
 pub few_above : (space : ℕ) (ks : List ℕ) → length (flat_map (λ page. above 4 space page 1) ks) ≤ 8 * length ks
 few_above space [] = omega arith
-few_above space (k ∷ ks) = omega (arith, length-append (above 4 space k 1) (flat_map (λ page. above 4 space page 1) ks), above_page space k, few_above space ks)
+few_above space (k ∷ ks) = omega (arith, length-append (above 4 space k 1) (flat_map (λ page. above 4 space page 1) ks), above_range space k 1, few_above space ks)
+
+-- those above the pages of operations
+above_ops : (st : State) (space : ℕ) (ops : List TxnOp) → All IsOp ops → length (flat_map (above_op st space) ops) ≤ (2 ^ 54 + 4) * length ops
+above_ops st space [] h = omega arith
+above_ops st space (o ∷ ops) h =
+    omega (arith, length-append (above_op st space o) (flat_map (above_op st space) ops), one o (All-head IsOp o ops h), above_ops st space ops (All-tail IsOp o ops h))
+  where
+    one : (o : TxnOp) → IsOp o → length (above_op st space o) ≤ 2 ^ 54 + 4
+    one (op.Map at fresh len perm what) h = omega (arith, above_range space (at / 4096) (pages_of len), pages_few len h.1)
+    one (op.Unmap at len) h = omega arith
+    one (op.Protect at len perm) h = omega arith
+
+pub ops_need : (st : State) (space : ℕ) (ops : List TxnOp) (tables : Tables) → length ops ≤ 16 → All IsOp ops → need (flat_map (above_op st space) ops) tables < 2 ^ 64
+ops_need st space ops tables few h = omega (arith, few, need_listed (flat_map (above_op st space) ops) tables, above_ops st space ops h)
 
 sum_ones : {X : Type 0} (xs : List X) → sum_by (λ x. 1) xs ≡ length xs
 sum_ones [] = refl

@@ -156,3 +156,6 @@ pub reads_none : (n : ReplyName) (words : List (List ℕ)) → ((r : Reply) (res
 reads_none n words none r rest h is =
     let whole : name_word n ∷ words ≡ name_word (name_of r) ∷ (words_behind r ++ rest) = is ∙ words_with r rest in
     none r rest (sym (one_name n (name_of r) (first_is _ _ _ _ whole))) h (rest_is _ _ _ _ whole)
+
+pub reply_words_some : (r : Reply) → reply_words r ≢ []
+reply_words_some r none = let some : name_word (name_of r) ∷ words_behind r ≡ [] = sym (words_are r) ∙ none in cc some

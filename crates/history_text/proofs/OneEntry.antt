@@ -12,8 +12,10 @@ use Rattle.text_words.specs.Spelling.{number}
 use Rattle.text_words.proofs.OneValue.{number_injective}
 use Rattle.text_words.proofs.SpelledBytes.{IsNoDigit-below, HasNo-number, HasNo-joined}
 use Rattle.text_words.proofs.WordLists.{joined-words_of, words_of-joined}
-use Rattle.mm_script.specs.CallLine.{call_words, IsCall}
-use Rattle.mm_script.proofs.OneCall.{one_call, call_words_have_no}
+use Rattle.mm_script.specs.CallLine.{call_words, spaced, IsCall, EndsCall}
+use Rattle.mm_script.proofs.CallForms.{other_word}
+use Rattle.mm_script.proofs.OpLines.{joined_spaced, spaced-append}
+use Rattle.mm_script.proofs.OneCall.{one_call, call_words_have_no, ends_before}
 use Rattle.history_text.specs.Replies.{reply_words, IsReply}
 use Rattle.history_text.specs.HistoryText.{entry_words, entry_line, IsEntry}
 use Rattle.history_text.proofs.OneReply.{one_reply, reply_words_have_no}
@@ -35,6 +37,10 @@ same_first a b x y same = cc
 same_behind : (a b : List ℕ) (x y : List (List ℕ)) → a ∷ x ≡ b ∷ y → x ≡ y
 same_behind a b x y same = cc
 
+-- `=` is no further operation of a transaction
+ends_here : (c : Call) (words : List (List ℕ)) → EndsCall c (codes "=" ∷ words)
+ends_here c words = ends_before c (codes "=") words (λ e. other_word (codes "=") (codes ";") [] [] refl (ap (λ w. w ∷ []) e))
+
 -- words begin with the words of one entry at most
 pub one_entry : (a b : Entry) (x y : List (List ℕ)) → IsEntry a → IsEntry b → entry_words a ++ x ≡ entry_words b ++ y → SameEntry a b x y
 one_entry a b x y ha hb same =
@@ -42,7 +48,7 @@ one_entry a b x y ha hb same =
     let from_call' : List (List ℕ) = call_words b.call ++ codes "=" ∷ (reply_words b.reply ++ y) in
     let whole : number a.thread ∷ from_call ≡ number b.thread ∷ from_call' = sym (entry_words-append a x) ∙ same ∙ entry_words-append b y in
     let threads : a.thread ≡ b.thread = number_injective a.thread b.thread (omega (arith, ha.thread.1)) (omega (arith, hb.thread.1)) (same_first _ _ from_call from_call' whole) in
-    let calls = one_call a.call b.call (codes "=" ∷ (reply_words a.reply ++ x)) (codes "=" ∷ (reply_words b.reply ++ y)) ha.call hb.call (same_behind _ _ from_call from_call' whole) in
+    let calls = one_call a.call b.call (codes "=" ∷ (reply_words a.reply ++ x)) (codes "=" ∷ (reply_words b.reply ++ y)) ha.call hb.call (ends_here a.call _) (ends_here b.call _) (same_behind _ _ from_call from_call' whole) in
     let replies = one_reply a.reply b.reply x y ha.reply hb.reply (same_behind _ _ (reply_words a.reply ++ x) (reply_words b.reply ++ y) calls.rest) in
     record { entries = entry_from_parts a b threads calls.calls replies.replies; rest = replies.rest }
 
@@ -53,8 +59,38 @@ no_entry_behind thread c words left hc are none e rest he is =
     let from_call : List (List ℕ) = call_words c ++ codes "=" ∷ left in
     let from_call' : List (List ℕ) = call_words e.call ++ codes "=" ∷ (reply_words e.reply ++ rest) in
     let whole : number thread ∷ from_call ≡ number e.thread ∷ from_call' = sym are ∙ is ∙ entry_words-append e rest in
-    let calls = one_call c e.call (codes "=" ∷ left) (codes "=" ∷ (reply_words e.reply ++ rest)) hc he.call (same_behind _ _ from_call from_call' whole) in
+    let calls = one_call c e.call (codes "=" ∷ left) (codes "=" ∷ (reply_words e.reply ++ rest)) hc he.call (ends_here c left) (ends_here e.call _) (same_behind _ _ from_call from_call' whole) in
     none e.reply rest he.reply (same_behind _ _ left (reply_words e.reply ++ rest) calls.rest)
+
+-- where no `=` stands behind a call, no entry does
+pub no_equals : (thread : ℕ) (c : Call) (words left : List (List ℕ)) → IsCall c → EndsCall c left → words ≡ number thread ∷ (call_words c ++ left) → ((rest : List (List ℕ)) → left ≢ codes "=" ∷ rest)
+    → (e : Entry) (rest : List (List ℕ)) → IsEntry e → words ≢ entry_words e ++ rest
+no_equals thread c words left hc ends are none e rest he is =
+    let from_call' : List (List ℕ) = call_words e.call ++ codes "=" ∷ (reply_words e.reply ++ rest) in
+    let whole : number thread ∷ (call_words c ++ left) ≡ number e.thread ∷ from_call' = sym are ∙ is ∙ entry_words-append e rest in
+    let calls = one_call c e.call left (codes "=" ∷ (reply_words e.reply ++ rest)) hc he.call ends (ends_here e.call _) (same_behind _ _ (call_words c ++ left) from_call' whole) in
+    none (reply_words e.reply ++ rest) calls.rest
+
+-- where no call stands behind a thread, no entry does
+pub no_call_behind : (thread : ℕ) (words left : List (List ℕ)) → words ≡ number thread ∷ left → ((c : Call) (rest : List (List ℕ)) → IsCall c → EndsCall c rest → left ≢ call_words c ++ rest)
+    → (e : Entry) (rest : List (List ℕ)) → IsEntry e → words ≢ entry_words e ++ rest
+no_call_behind thread words left are none e rest he is =
+    let from_call' : List (List ℕ) = call_words e.call ++ codes "=" ∷ (reply_words e.reply ++ rest) in
+    let whole : number thread ∷ left ≡ number e.thread ∷ from_call' = sym are ∙ is ∙ entry_words-append e rest in
+    none e.call (codes "=" ∷ (reply_words e.reply ++ rest)) he.call (ends_here e.call _) (same_behind _ _ left from_call' whole)
+
+-- the line of an answered call, from its parts
+spaced_joined : (words : List (List ℕ)) → words ≢ [] → spaced words ≡ 32 ∷ joined words
+spaced_joined [] some = absurd (some refl)
+spaced_joined (w ∷ words) some = sym (ap (λ t. 32 ∷ t) (joined_spaced w words))
+
+pub answer_written : (front first : List ℕ) (call reply : List (List ℕ)) → call ≢ [] → reply ≢ []
+    → ((((front ++ first) ++ 32 ∷ []) ++ joined call) ++ (32 ∷ 61 ∷ 32 ∷ [])) ++ joined reply ≡ front ++ joined (first ∷ (call ++ codes "=" ∷ reply))
+answer_written front first call reply some_call some_reply =
+    let parts : joined (first ∷ (call ++ codes "=" ∷ reply)) ≡ first ++ ((32 ∷ joined call) ++ (32 ∷ 61 ∷ 32 ∷ joined reply)) =
+    joined_spaced first (call ++ codes "=" ∷ reply) ∙ ap (λ t. first ++ t) (spaced-append call (codes "=" ∷ reply) ∙ (λ i. spaced_joined call some_call i ++ (32 ∷ 61 ∷ spaced_joined reply some_reply i))) in
+    let flat : ((((front ++ first) ++ 32 ∷ []) ++ joined call) ++ (32 ∷ 61 ∷ 32 ∷ [])) ++ joined reply ≡ front ++ (first ++ ((32 ∷ joined call) ++ (32 ∷ 61 ∷ 32 ∷ joined reply))) = simp append_assoc in
+    flat ∙ ap (λ t. front ++ t) (sym parts)
 
 -- what a reader says where it found none
 pub none_read : {X : Type 0} (r : Option X) (P : Type 0) → ((x : X) → r ≢ Some x) → IfNone r P → P

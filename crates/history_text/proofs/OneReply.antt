@@ -1,9 +1,6 @@
 -- A reply's words are those of one reply, and no word of a reply has a space or a newline.
 use Rattle.std.proofs.Common.{◌≡◌, ◌≢◌, ℕ, false, ◌<◌, ◌^◌, List, [], ◌∷◌, ◌++◌, codes, refl, sym, ap, subst, ◌∙◌, arith}
 use Rattle.std.specs.List.{All}
-use Rattle.std.specs.Str.{bytes_eq}
-use Rattle.std.proofs.lemmas.Bool.{false≢true}
-use Rattle.std.proofs.lemmas.Slice.Eq.{bytes_eq-Decides}
 use Rattle.std.proofs.lemmas.List.Elements.{All-nil, All-cons}
 use Rattle.corten_base.specs.declared.calls.Reply.{Reply}
 use Rattle.corten_base.specs.declared.calls.Reply.TheVariants as reply
@@ -13,6 +10,7 @@ use Rattle.text_words.specs.Layout.{HasNo}
 use Rattle.text_words.specs.Spelling.{number, address, hex}
 use Rattle.text_words.proofs.OneValue.{number_injective, address_injective, hex_injective}
 use Rattle.text_words.proofs.SpelledBytes.{IsNoDigit-below, HasNo-number, HasNo-address, HasNo-hex}
+use Rattle.mm_script.proofs.CallForms.{other_word}
 use Rattle.mm_script.proofs.OneCall.{HasNo_letters}
 use Rattle.history_text.specs.declared.reply_names.ReplyName.{ReplyName}
 use Rattle.history_text.specs.declared.reply_names.ReplyName.TheVariants as name
@@ -27,12 +25,6 @@ pub record SameReply (a b : Reply) (x y : List (List ℕ)) : Type 0 where
 
 same_count : (m n : ℕ) → IsCount m → IsCount n → number m ≡ number n → m ≡ n
 same_count m n hm hn same = number_injective m n (omega arith) (omega arith) same
-
--- words whose first differ
-other_word : (a b : List ℕ) (x y : List (List ℕ)) → bytes_eq a b ≡ false → a ∷ x ≢ b ∷ y
-other_word a b x y differ same =
-    let first : a ≡ b = cc same in
-    false≢true (sym differ ∙ (bytes_eq-Decides a b).1 first)
 
 -- why an operation was refused
 record SameWhy (a b : Why) (x y : List (List ℕ)) : Type 0 where

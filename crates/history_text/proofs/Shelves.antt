@@ -4,10 +4,7 @@ use Rattle.std.specs.Prelude.{Option, Some, slice_get}
 use Rattle.std.specs.List.{All}
 use Rattle.std.proofs.lemmas.List.{append-nil, append_assoc, map_push, take_more}
 use Rattle.std.proofs.lemmas.Option.{get_or_from_slice_get, slice_get_within}
-use Rattle.std.specs.Str.{bytes_eq}
-use Rattle.std.proofs.lemmas.Bool.{false≢true}
 use Rattle.std.proofs.lemmas.Bool.Decides.{nat_tests}
-use Rattle.std.proofs.lemmas.Slice.Eq.{bytes_eq-Decides}
 use Rattle.std.proofs.lemmas.List.Elements.{All-head, All-tail}
 use Rattle.corten_base.specs.declared.calls.Entry.{Entry}
 use Rattle.text_words.specs.Layout.{HasNo, words_of, ended, text}
@@ -15,6 +12,7 @@ use Rattle.text_words.proofs.LineLists.{text-append}
 use Rattle.text_words.specs.Spelling.{number}
 use Rattle.text_words.proofs.SpelledBytes.{IsNoDigit, HasNo-number}
 use Rattle.mm_script.specs.ScriptText.{file_line, file_lines, IsFile}
+use Rattle.mm_script.proofs.CallForms.{other_word}
 use Rattle.mm_script.proofs.FileLines.{file_words, words_of-file_line, file_line_injective}
 use Rattle.history_text.specs.declared.counts.Counts.{Counts}
 use Rattle.history_text.specs.Accounting.{counts_words, frames_line, AreCounts}
@@ -25,9 +23,6 @@ use Rattle.history_text.proofs.CountLines.{words_of-counts, frames_names}
 
 same_first : (a b : List ℕ) (x y : List (List ℕ)) → a ∷ x ≡ b ∷ y → a ≡ b
 same_first a b x y same = cc
-
-other_word : (a b : List ℕ) (x y : List (List ℕ)) → bytes_eq a b ≡ false → a ∷ x ≢ b ∷ y
-other_word a b x y differ same = false≢true (sym differ ∙ (bytes_eq-Decides a b).1 (same_first a b x y same))
 
 pub frames_line_no_file : (c : Counts) → AreCounts c → IsNoFile (frames_line c)
 frames_line_no_file c h bytes is_file is =

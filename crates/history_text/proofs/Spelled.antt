@@ -51,7 +51,7 @@ use Rattle.mm_model.proofs.Bounds.{few_pass}
 use Rattle.mm_script.specs.CallLine.{IsCall, IsWithin, IsAccess}
 use Rattle.mm_script.specs.ScriptText.{AreLimits}
 use Rattle.history_text.specs.Replies.{IsReply, IsWhy}
-use Rattle.history_text.proofs.Amounts.{nothing_needed, range_needs, pages_few, need_listed, few_above, keys_below, keys_few, keys_nowhere}
+use Rattle.history_text.proofs.Amounts.{nothing_needed, range_needs, pages_few, need_listed, ops_need, few_above, keys_below, keys_few, keys_nowhere}
 use Rattle.history_text.proofs.ByteCells.{AreBytes, AreAllBytes}
 use Rattle.history_text.proofs.Closings.{few_unused}
 
@@ -207,7 +207,7 @@ module _ (st : State) (thread limbo : ℕ) (ok : IsConsistent st) (hl : AreLimit
   spelled_arguments (call.Exit space) h = spelled_not
   spelled_arguments (call.SwapOut space at len) h = spelled_unless _ reply.Einval tt
   spelled_arguments (call.SwapIn space at len) h = spelled_unless _ reply.Einval tt
-  spelled_arguments _ h = absurd h
+  spelled_arguments (call.Txn space at len ops) h = spelled_unless _ reply.Einval tt
 
   spelled_space : (c : Call) → Spelled (no_space st c)
   spelled_space c = go (space_of c)
@@ -228,7 +228,7 @@ module _ (st : State) (thread limbo : ℕ) (ok : IsConsistent st) (hl : AreLimit
   spelled_spaces (call.Exit space) h = spelled_not
   spelled_spaces (call.SwapOut space at len) h = spelled_not
   spelled_spaces (call.SwapIn space at len) h = spelled_not
-  spelled_spaces _ h = absurd h
+  spelled_spaces (call.Txn space at len ops) h = spelled_not
 
   spelled_place : (c : Call) → IsCall c → arguments st c ≡ None → Spelled (no_place st thread c)
   spelled_place (call.Map space place.Any len perm what) h right = spelled_unless _ reply.NoRoom tt
@@ -246,7 +246,7 @@ module _ (st : State) (thread limbo : ℕ) (ok : IsConsistent st) (hl : AreLimit
   spelled_place (call.Exit space) h right = spelled_not
   spelled_place (call.SwapOut space at len) h right = spelled_not
   spelled_place (call.SwapIn space at len) h right = spelled_not
-  spelled_place _ h right = absurd h
+  spelled_place (call.Txn space at len ops) h right = spelled_not
 
   spelled_pages : (c : Call) → IsCall c → arguments st c ≡ None → Spelled (pages st c)
   spelled_pages (call.Protect space at len perm) h right =
@@ -262,7 +262,10 @@ module _ (st : State) (thread limbo : ℕ) (ok : IsConsistent st) (hl : AreLimit
   spelled_pages (call.Exit space) h right = spelled_not
   spelled_pages (call.SwapOut space at len) h right = spelled_not
   spelled_pages (call.SwapIn space at len) h right = spelled_not
-  spelled_pages _ h right = absurd h
+  spelled_pages (call.Txn space at len ops) h right =
+      let many = h.3.0 in
+      spelled_each (λ (u : ℕ × Why). reply.Undone u.0 u.1) (undone (is_right_within 4 st.files (at / 4096) (pages_of len)) 1 ops (space_at st space))
+      (λ u e. undone_spelled st.files (at / 4096) (pages_of len) ops 1 (space_at st space) u (omega arith) (omega (arith, many.1)) e)
 
   no_tables_wanted : need [] st.tables < 2 ^ 64
   no_tables_wanted = omega (arith, nothing_needed st.tables)
@@ -293,7 +296,7 @@ module _ (st : State) (thread limbo : ℕ) (ok : IsConsistent st) (hl : AreLimit
   few_wanted_tables (call.Exit space) h = no_tables_wanted
   few_wanted_tables (call.SwapOut space at len) h = no_tables_wanted
   few_wanted_tables (call.SwapIn space at len) h = no_tables_wanted
-  few_wanted_tables _ h = absurd h
+  few_wanted_tables (call.Txn space at len ops) h = ops_need st space ops st.tables h.3.0.1 h.3.1
 
   spelled_tables : (c : Call) → IsCall c → Spelled (no_tables st thread c limbo)
   spelled_tables c h =
@@ -344,7 +347,7 @@ module _ (st : State) (thread limbo : ℕ) (ok : IsConsistent st) (hl : AreLimit
       numbered p (Anon perm) e h = absurd (true≢false (sym h))
       numbered p (File perm file index) e h = absurd (true≢false (sym h))
       numbered p (Mapped perm frame bytes) e h = absurd (true≢false (sym h))
-  few_wanted_frames _ h = absurd h
+  few_wanted_frames (call.Txn space at len ops) h = omega arith
 
   few_wanted_slots : (c : Call) → IsCall c → length (wanting_slots_of st c) ≤ 4096
   few_wanted_slots (call.Map space where_to len perm what) h = omega arith
@@ -366,7 +369,7 @@ module _ (st : State) (thread limbo : ℕ) (ok : IsConsistent st) (hl : AreLimit
       numbered p (Anon perm) e h = absurd (true≢false (sym h))
       numbered p (File perm file index) e h = absurd (true≢false (sym h))
       numbered p (Swapped perm slot bytes) e h = absurd (true≢false (sym h))
-  few_wanted_slots _ h = absurd h
+  few_wanted_slots (call.Txn space at len ops) h = omega arith
 
   few_free_frames : length (unused_frames st) < 2 ^ 32
   few_free_frames = let few = few_unused (frame_owners st) st.limits.frames in let frames = hl.frames in omega (arith, few, frames.1)
@@ -458,7 +461,7 @@ module _ (st : State) (thread limbo : ℕ) (ok : IsConsistent st) (hl : AreLimit
   spelled_answer (call.Exit space) few all h passed = tt
   spelled_answer (call.SwapOut space at len) few all h passed = omega (arith, few_wanted_slots (call.SwapOut space at len) h)
   spelled_answer (call.SwapIn space at len) few all h passed = omega (arith, few_wanted_frames (call.SwapIn space at len) h)
-  spelled_answer _ few all h passed = absurd h
+  spelled_answer (call.Txn space at len ops) few all h passed = tt
 
   pub spelled_step : (c : Call) → thread < 8 → AreAllBytes st → IsCall c → IsReply (step st thread c limbo).0
   spelled_step c few all h = go (refusal st thread c limbo) refl

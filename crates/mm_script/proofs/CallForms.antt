@@ -8,10 +8,11 @@ use Rattle.std.proofs.lemmas.Slice.Eq.{bytes_eq-Decides}
 use Rattle.corten_base.specs.declared.permissions.Perm.{Perm}
 use Rattle.corten_base.specs.declared.calls.MapPlace.{MapPlace}
 use Rattle.corten_base.specs.declared.calls.Backing.{Backing}
+use Rattle.corten_base.specs.declared.calls.TxnOp.{TxnOp}
 use Rattle.corten_base.specs.declared.calls.Call.{Call}
 use Rattle.corten_base.specs.declared.calls.Call.TheVariants as call
 use Rattle.text_words.specs.Spelling.{number, address, hex, permission}
-use Rattle.mm_script.specs.CallLine.{place_words, backing_words, access_word, call_words, IsSpace, IsNumber, IsPlace, IsBacking, IsAccess, IsCall}
+use Rattle.mm_script.specs.CallLine.{place_words, backing_words, access_word, call_words, IsSpace, IsNumber, IsPlace, IsBacking, IsAccess, IsCall, AreOps, IsNoMore, EndsCall, ops_words}
 use Rattle.mm_script.specs.declared.call_names.CallName.{CallName}
 use Rattle.mm_script.specs.declared.call_names.CallName.TheVariants as name
 use Rattle.mm_script.specs.CallNames.{name_word}
@@ -85,6 +86,12 @@ pub no_in : (words : List (List ℕ))
 no_in words none (call.SwapIn space at len) rest h are = none space at len rest h.0 h.1 h.2 (cc)
 no_in words none _ rest h are = other_word (codes "in") _ _ _ refl are
 
+pub no_txn : (words : List (List ℕ))
+    → ((space at len : ℕ) (ops : List TxnOp) (rest : List (List ℕ)) → IsSpace space → IsNumber at → IsNumber len → AreOps ops → IsNoMore rest → words ≢ number space ∷ address at ∷ number len ∷ (ops_words ops ++ rest))
+    → (c : Call) (rest : List (List ℕ)) → IsCall c → EndsCall c rest → codes "txn" ∷ words ≢ call_words c ++ rest
+no_txn words none (call.Txn space at len ops) rest h ends are = none space at len ops rest h.0 h.1 h.2 h.3 ends (cc)
+no_txn words none _ rest h ends are = other_word (codes "txn") _ _ _ refl are
+
 -- a call has words
 pub no_words : (c : Call) (rest : List (List ℕ)) → [] ≢ call_words c ++ rest
 no_words (call.Map space at len perm what) rest are = cc
@@ -113,4 +120,4 @@ no_name word words none (call.Fork space) rest h are = none name.Fork (cc)
 no_name word words none (call.Exit space) rest h are = none name.Exit (cc)
 no_name word words none (call.SwapOut space at len) rest h are = none name.SwapOut (cc)
 no_name word words none (call.SwapIn space at len) rest h are = none name.SwapIn (cc)
-no_name word words none _ rest h are = h
+no_name word words none (call.Txn space at len ops) rest h are = none name.Txn (cc)

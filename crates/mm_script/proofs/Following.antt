@@ -45,6 +45,7 @@ thread_is_no_name name.Spawn same = other_word (codes "thread") (codes "spawn") 
 thread_is_no_name name.Fork same = other_word (codes "thread") (codes "fork") [] [] refl (ap (λ w. w ∷ []) same)
 thread_is_no_name name.Exit same = other_word (codes "thread") (codes "exit") [] [] refl (ap (λ w. w ∷ []) same)
 thread_is_no_name name.SwapOut same = other_word (codes "thread") (codes "out") [] [] refl (ap (λ w. w ∷ []) same)
+thread_is_no_name name.Txn same = other_word (codes "thread") (codes "txn") [] [] refl (ap (λ w. w ∷ []) same)
 thread_is_no_name name.SwapIn same = other_word (codes "thread") (codes "in") [] [] refl (ap (λ w. w ∷ []) same)
 
 pub no_call_thread : (c : Call) → IsCall c → call_line c ≢ codes "thread"

@@ -3,7 +3,10 @@ pub mod CallForms
 pub mod FileLines
 pub mod FirstFault
 pub mod Following
+pub mod OneArgument
 pub mod OneCall
+pub mod OneOp
 pub mod OneScript
+pub mod OpLines
 pub mod Places
 pub mod ThreadLines

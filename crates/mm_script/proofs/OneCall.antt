@@ -4,12 +4,14 @@ use Rattle.std.specs.Prelude.{Option, Some, None, IfSome, IfNone}
 use Rattle.std.specs.List.{All, list_all}
 use Rattle.std.proofs.lemmas.Bool.{and_parts, ltb-true}
 use Rattle.std.proofs.lemmas.List.{append-nil}
-use Rattle.std.proofs.lemmas.List.Elements.{All-nil, All-cons, All-append}
+use Rattle.std.proofs.lemmas.List.Elements.{All-nil, All-cons, All-head, All-tail, All-append}
 use Rattle.corten_base.specs.declared.permissions.Perm.{Perm}
 use Rattle.corten_base.specs.declared.calls.MapPlace.{MapPlace}
 use Rattle.corten_base.specs.declared.calls.MapPlace.TheVariants as place
 use Rattle.corten_base.specs.declared.calls.Backing.{Backing}
 use Rattle.corten_base.specs.declared.calls.Backing.TheVariants as backing
+use Rattle.corten_base.specs.declared.calls.TxnOp.{TxnOp}
+use Rattle.corten_base.specs.declared.calls.TxnOp.TheVariants as op
 use Rattle.corten_base.specs.declared.calls.Call.{Call}
 use Rattle.corten_base.specs.declared.calls.Call.TheVariants as call
 use Rattle.text_words.specs.Layout.{HasNo, IsLine, joined, words_of}
@@ -17,49 +19,18 @@ use Rattle.text_words.specs.Spelling.{number, address, permission}
 use Rattle.text_words.proofs.OneValue.{number_injective, address_injective, hex_injective, permission_injective}
 use Rattle.text_words.proofs.SpelledBytes.{IsNoDigit-below, HasNo-number, HasNo-address, HasNo-hex, HasNo-permission, HasNo-joined}
 use Rattle.text_words.proofs.WordLists.{joined-words_of, words_of-joined}
-use Rattle.mm_script.specs.CallLine.{place_words, backing_words, access_word, call_words, call_line, IsSpace, IsNumber, IsPlace, IsBacking, IsCall}
+use Rattle.mm_script.specs.CallLine.{place_words, backing_words, access_word, fresh_word, op_words, more_ops_words, ops_words, call_words, call_line, IsNoMore, EndsCall, IsOp, IsSpace, IsNumber, IsPlace, IsBacking, IsCall}
 use Rattle.mm_script.proofs.CallForms.{other_word, map_words-append, no_words}
+use Rattle.mm_script.proofs.OneArgument.{same_number, same_place, same_backing}
+use Rattle.mm_script.proofs.OneOp.{same_ops}
 
 -- the same call, and the same words behind it
 pub record SameCall (a b : Call) (x y : List (List ℕ)) : Type 0 where
   pub calls : a ≡ b
   pub rest : x ≡ y
 
-same_number : (m n high : ℕ) → m ≤ high → n ≤ high → high ≤ 4096 → number m ≡ number n → m ≡ n
-same_number m n high hm hn small same = number_injective m n (omega arith) (omega arith) same
-
 same_space : (a b : ℕ) → IsSpace a → IsSpace b → number a ≡ number b → a ≡ b
 same_space a b ha hb same = number_injective a b (omega arith) (omega arith) same
-
--- the same place, and the same words behind it
-pub same_place : (a b : MapPlace) (x y : List (List ℕ)) → IsPlace a → IsPlace b → place_words a ++ x ≡ place_words b ++ y → (a ≡ b) × (x ≡ y)
-same_place place.Any place.Any x y ha hb same = (refl, cc)
-same_place (place.At at) (place.At at') x y ha hb same = (ap place.At (address_injective at at' ha hb (cc)), cc)
-same_place (place.New at) (place.New at') x y ha hb same = (ap place.New (address_injective at at' ha hb (cc)), cc)
-same_place place.Any (place.At at') x y ha hb same = absurd (other_word (codes "any") (codes "at") _ _ refl same)
-same_place place.Any (place.New at') x y ha hb same = absurd (other_word (codes "any") (codes "new") _ _ refl same)
-same_place (place.At at) place.Any x y ha hb same = absurd (other_word (codes "at") (codes "any") _ _ refl same)
-same_place (place.At at) (place.New at') x y ha hb same = absurd (other_word (codes "at") (codes "new") _ _ refl same)
-same_place (place.New at) place.Any x y ha hb same = absurd (other_word (codes "new") (codes "any") _ _ refl same)
-same_place (place.New at) (place.At at') x y ha hb same = absurd (other_word (codes "new") (codes "at") _ _ refl same)
-
--- no number stands behind a place
-pub no_length : (words behind_space behind_place rest : List (List ℕ)) (space space' len : ℕ) (at at' : MapPlace) → IsPlace at → IsPlace at' → words ≡ number space ∷ behind_space → behind_space ≡ place_words at ++ behind_place → IsNumber len
-    → ((n : ℕ) (more : List (List ℕ)) → IsNumber n → behind_place ≢ number n ∷ more) → words ≢ number space' ∷ (place_words at' ++ number len ∷ rest)
-no_length words behind_space behind_place rest space space' len at at' ha hb space_is place_is fits none are =
-    let both : number space ∷ (place_words at ++ behind_place) ≡ number space' ∷ (place_words at' ++ number len ∷ rest) = ap (λ ws. number space ∷ ws) (sym place_is) ∙ sym space_is ∙ are in
-    none len rest fits (same_place at at' behind_place (number len ∷ rest) ha hb (cc both)).1
-
-same_file : (file index file' index' : ℕ) → file ≡ file' → index ≡ index' → backing.File file index ≡ backing.File file' index'
-same_file file index file' index' f n = λ i. backing.File (f i) (n i)
-
--- the same backing, and the same words behind it
-pub same_backing : (a b : Backing) (x y : List (List ℕ)) → IsBacking a → IsBacking b → backing_words a ++ x ≡ backing_words b ++ y → (a ≡ b) × (x ≡ y)
-same_backing backing.Zero backing.Zero x y ha hb same = (refl, cc)
-same_backing (backing.File file index) (backing.File file' index') x y ha hb same =
-    (same_file file index file' index' (same_number file file' 15 ha.0.1 hb.0.1 (omega arith) (cc)) (number_injective index index' ha.1 hb.1 (cc)), cc)
-same_backing backing.Zero (backing.File file' index') x y ha hb same = absurd (other_word (codes "zero") (codes "file") _ _ refl same)
-same_backing (backing.File file index) backing.Zero x y ha hb same = absurd (other_word (codes "file") (codes "zero") _ _ refl same)
 
 access_word_injective : (a b : Bool) → access_word a ≡ access_word b → a ≡ b
 access_word_injective true true same = refl
@@ -157,20 +128,29 @@ one_in space at len (call.SwapIn space' at' len') x y ha hb same =
     record { calls = λ i. call.SwapIn (spaces i) (places i) (lengths i); rest = cc }
 one_in space at len _ x y ha hb same = absurd (other_word (codes "in") _ _ _ refl same)
 
+one_txn : (space at len : ℕ) (ops : List TxnOp) (b : Call) (x y : List (List ℕ)) → IsCall (call.Txn space at len ops) → IsCall b → IsNoMore x → EndsCall b y → call_words (call.Txn space at len ops) ++ x ≡ call_words b ++ y → SameCall (call.Txn space at len ops) b x y
+one_txn space at len ops (call.Txn space' at' len' ops') x y ha hb ends_a ends_b same =
+    let spaces : space ≡ space' = same_space space space' ha.0 hb.0 (cc) in
+    let places : at ≡ at' = address_injective at at' ha.1 hb.1 (cc) in
+    let lengths : len ≡ len' = number_injective len len' ha.2 hb.2 (cc) in
+    let all = same_ops ops ops' x y ha.3 hb.3 ends_a ends_b (cc) in
+    record { calls = λ i. call.Txn (spaces i) (places i) (lengths i) (all.0 i); rest = all.1 }
+one_txn space at len ops _ x y ha hb ends_a ends_b same = absurd (other_word (codes "txn") _ _ _ refl same)
+
 -- words begin with the words of one call at most
-pub one_call : (a b : Call) (x y : List (List ℕ)) → IsCall a → IsCall b → call_words a ++ x ≡ call_words b ++ y → SameCall a b x y
-one_call (call.Map space at len perm what) b x y ha hb same = one_map space len at perm what b x y ha hb same
-one_call (call.Unmap space at len) b x y ha hb same = one_unmap space at len b x y ha hb same
-one_call (call.Protect space at len perm) b x y ha hb same = one_protect space at len perm b x y ha hb same
-one_call (call.Load space at len) b x y ha hb same = one_load space at len b x y ha hb same
-one_call (call.Store space at bytes) b x y ha hb same = one_store space at bytes b x y ha hb same
-one_call (call.Fault space at write) b x y ha hb same = one_fault space at write b x y ha hb same
-one_call call.Spawn b x y ha hb same = one_spawn b x y hb same
-one_call (call.Fork space) b x y ha hb same = one_fork space b x y ha hb same
-one_call (call.Exit space) b x y ha hb same = one_exit space b x y ha hb same
-one_call (call.SwapOut space at len) b x y ha hb same = one_out space at len b x y ha hb same
-one_call (call.SwapIn space at len) b x y ha hb same = one_in space at len b x y ha hb same
-one_call _ b x y ha hb same = absurd ha
+pub one_call : (a b : Call) (x y : List (List ℕ)) → IsCall a → IsCall b → EndsCall a x → EndsCall b y → call_words a ++ x ≡ call_words b ++ y → SameCall a b x y
+one_call (call.Map space at len perm what) b x y ha hb ends_a ends_b same = one_map space len at perm what b x y ha hb same
+one_call (call.Unmap space at len) b x y ha hb ends_a ends_b same = one_unmap space at len b x y ha hb same
+one_call (call.Protect space at len perm) b x y ha hb ends_a ends_b same = one_protect space at len perm b x y ha hb same
+one_call (call.Load space at len) b x y ha hb ends_a ends_b same = one_load space at len b x y ha hb same
+one_call (call.Store space at bytes) b x y ha hb ends_a ends_b same = one_store space at bytes b x y ha hb same
+one_call (call.Fault space at write) b x y ha hb ends_a ends_b same = one_fault space at write b x y ha hb same
+one_call call.Spawn b x y ha hb ends_a ends_b same = one_spawn b x y hb same
+one_call (call.Fork space) b x y ha hb ends_a ends_b same = one_fork space b x y ha hb same
+one_call (call.Exit space) b x y ha hb ends_a ends_b same = one_exit space b x y ha hb same
+one_call (call.SwapOut space at len) b x y ha hb ends_a ends_b same = one_out space at len b x y ha hb same
+one_call (call.SwapIn space at len) b x y ha hb ends_a ends_b same = one_in space at len b x y ha hb same
+one_call (call.Txn space at len ops) b x y ha hb ends_a ends_b same = one_txn space at len ops b x y ha hb ends_a ends_b same
 
 -- a byte below the letters does not occur in a word of letters
 pub HasNo_letters : (byte : ℕ) (bytes : List ℕ) → byte < 45 → list_all (λ b. ltb 96 b) bytes ≡ true → HasNo byte bytes
@@ -224,6 +204,33 @@ module _ (byte : ℕ) (low : byte < 45) where
   range_words_have_no name space at len ws hn hs ha hl h =
       one _ _ hn (one _ _ (space_word_has_no byte space low hs) (one _ _ (address_word_has_no byte at low ha) (one _ _ (length_word_has_no byte len low hl) h)))
 
+  fresh_word_has_no : (fresh : Bool) → P (fresh_word fresh)
+  fresh_word_has_no true = HasNo_letters byte (codes "new") low refl
+  fresh_word_has_no false = HasNo_letters byte (codes "at") low refl
+
+  op_words_have_no : (o : TxnOp) → IsOp o → Clean (op_words o)
+  op_words_have_no (op.Map at fresh len perm what) h =
+      one _ _ (HasNo_letters byte (codes "map") low refl) (one _ _ (fresh_word_has_no fresh) (one _ _ (address_word_has_no byte at low h.0)
+      (one _ _ (length_word_has_no byte len low h.1) (one _ _ (HasNo-permission byte perm low) (backing_words_have_no what h.2)))))
+  op_words_have_no (op.Unmap at len) h =
+      one _ _ (HasNo_letters byte (codes "unmap") low refl) (one _ _ (address_word_has_no byte at low h.0) (one _ _ (length_word_has_no byte len low h.1) none))
+  op_words_have_no (op.Protect at len perm) h =
+      one _ _ (HasNo_letters byte (codes "protect") low refl) (one _ _ (address_word_has_no byte at low h.0) (one _ _ (length_word_has_no byte len low h.1)
+      (one _ _ (HasNo-permission byte perm low) none)))
+
+  -- 59 is `;`
+  semicolon_has_no : P (codes ";")
+  semicolon_has_no = All-cons (λ b. b ≢ byte) 59 [] (λ e. omega arith) (All-nil (λ b. b ≢ byte))
+
+  more_ops_words_have_no : (ops : List TxnOp) → All IsOp ops → Clean (more_ops_words ops)
+  more_ops_words_have_no [] h = none
+  more_ops_words_have_no (o ∷ ops) h =
+      both (codes ";" ∷ op_words o) (more_ops_words ops) (one _ _ semicolon_has_no (op_words_have_no o (All-head IsOp o ops h))) (more_ops_words_have_no ops (All-tail IsOp o ops h))
+
+  ops_words_have_no : (ops : List TxnOp) → All IsOp ops → Clean (ops_words ops)
+  ops_words_have_no [] h = none
+  ops_words_have_no (o ∷ ops) h = both (op_words o) (more_ops_words ops) (op_words_have_no o (All-head IsOp o ops h)) (more_ops_words_have_no ops (All-tail IsOp o ops h))
+
   words_have_no : (c : Call) → IsCall c → Clean (call_words c)
   words_have_no (call.Map space at len perm what) h =
       one _ _ (HasNo_letters byte (codes "map") low refl) (one _ _ (space_word_has_no byte space low h.0)
@@ -244,7 +251,7 @@ module _ (byte : ℕ) (low : byte < 45) where
   words_have_no (call.Exit space) h = one _ _ (HasNo_letters byte (codes "exit") low refl) (one _ _ (space_word_has_no byte space low h) none)
   words_have_no (call.SwapOut space at len) h = range_words_have_no (codes "out") space at len [] (HasNo_letters byte (codes "out") low refl) h.0 h.1 h.2 none
   words_have_no (call.SwapIn space at len) h = range_words_have_no (codes "in") space at len [] (HasNo_letters byte (codes "in") low refl) h.0 h.1 h.2 none
-  words_have_no _ h = absurd h
+  words_have_no (call.Txn space at len ops) h = range_words_have_no (codes "txn") space at len (ops_words ops) (HasNo_letters byte (codes "txn") low refl) h.0 h.1 h.2 (ops_words_have_no ops h.3.1)
 
 pub call_words_have_no : (byte : ℕ) (c : Call) → byte < 45 → IsCall c → All (HasNo byte) (call_words c)
 call_words_have_no byte c low h = (words_have_no byte low c h).all
@@ -258,15 +265,24 @@ words_of-call_line c h = words_of-joined (call_words c) (call_words_some c) (cal
 pub call_line_IsLine : (c : Call) → IsCall c → IsLine (call_line c)
 call_line_IsLine c h = HasNo-joined 10 (call_words c) (λ e. cc) (call_words_have_no 10 c (omega arith) h)
 
+-- what stands behind a call's words at the end, and before a word that is not `;`
+pub ends_at_end : (c : Call) → EndsCall c []
+ends_at_end (call.Txn space at len ops) = λ rest same. cc same
+ends_at_end _ = tt
+
+pub ends_before : (c : Call) (word : List ℕ) (words : List (List ℕ)) → word ≢ codes ";" → EndsCall c (word ∷ words)
+ends_before (call.Txn space at len ops) word words other = λ rest same. other (cc same)
+ends_before _ word words other = tt
+
 pub call_line_injective : (a b : Call) → IsCall a → IsCall b → call_line a ≡ call_line b → a ≡ b
 call_line_injective a b ha hb same =
     let words : call_words a ≡ call_words b = sym (words_of-call_line a ha) ∙ ap words_of same ∙ words_of-call_line b hb in
-    (one_call a b [] [] ha hb (ap (λ ws. ws ++ []) words)).calls
+    (one_call a b [] [] ha hb (ends_at_end a) (ends_at_end b) (ap (λ ws. ws ++ []) words)).calls
 
 -- A reader took the words of a call from the front of a line's words, or found none there; more are left behind them.
 pub record HasTaken (read : Option Call) (line : List ℕ) (more : List (List ℕ)) : Type 0 where
-  pub found : IfSome read (λ c. IsCall c × (words_of line ≡ call_words c ++ more))
-  pub none : IfNone read ((c : Call) (rest : List (List ℕ)) → IsCall c → words_of line ≢ call_words c ++ rest)
+  pub found : IfSome read (λ c. IsCall c × EndsCall c more × (words_of line ≡ call_words c ++ more))
+  pub none : IfNone read ((c : Call) (rest : List (List ℕ)) → IsCall c → EndsCall c rest → words_of line ≢ call_words c ++ rest)
 
 line_from_words : (line : List ℕ) (c : Call) → words_of line ≡ call_words c ++ [] → line ≡ call_line c
 line_from_words line c are = sym (joined-words_of line) ∙ ap joined (are ∙ append-nil (call_words c))
@@ -276,12 +292,13 @@ words_from_line line c h is = ap words_of is ∙ words_of-call_line c h ∙ sym 
 
 pub found_whole : (read : Option Call) (line : List ℕ) (more : List (List ℕ)) → HasTaken read line more → more ≡ [] → IfSome read (λ c. IsCall c × (line ≡ call_line c))
 found_whole None line more taken done = tt
-found_whole (Some c) line more taken done = (taken.found.0, line_from_words line c (taken.found.1 ∙ ap (λ ws. call_words c ++ ws) done))
+found_whole (Some c) line more taken done = (taken.found.0, line_from_words line c (taken.found.2 ∙ ap (λ ws. call_words c ++ ws) done))
 
 pub none_whole : (read : Option Call) (line : List ℕ) (more : List (List ℕ)) → HasTaken read line more → IfNone read ((c : Call) → IsCall c → line ≢ call_line c)
-none_whole None line more taken = λ c h is. taken.none c [] h (words_from_line line c h is)
+none_whole None line more taken = λ c h is. taken.none c [] h (ends_at_end c) (words_from_line line c h is)
 none_whole (Some c) line more taken = tt
 
 pub none_longer : (read : Option Call) (line : List ℕ) (more : List (List ℕ)) → HasTaken read line more → more ≢ [] → (c : Call) → IsCall c → line ≢ call_line c
-none_longer None line more taken some = λ c h is. taken.none c [] h (words_from_line line c h is)
-none_longer (Some a) line more taken some = λ c h is. some (one_call a c more [] taken.found.0 h (sym taken.found.1 ∙ words_from_line line c h is)).rest
+none_longer None line more taken some = λ c h is. taken.none c [] h (ends_at_end c) (words_from_line line c h is)
+none_longer (Some a) line more taken some =
+    λ c h is. some (one_call a c more [] taken.found.0 h taken.found.1 (ends_at_end c) (sym taken.found.2 ∙ words_from_line line c h is)).rest

@@ -2,7 +2,9 @@
 --     call_words, call_line      the words of a call's line, and the line
 --     op_words, ops_words      the words of an operation of a transaction, and of all of them
 --     IsCall      the calls that have a line
-use Rattle.std.specs.Prelude.{ℕ, ◌<◌, ◌≤◌, ◌^◌, Bool, ⊤, List, [], ◌∷◌, ◌++◌, length, codes, All, if◌then◌else◌}
+--     IsNoMore, EndsCall      what can stand behind a call's words
+use Rattle.std.specs.Prelude.{◌≢◌, ℕ, ◌<◌, ◌≤◌, ◌^◌, Bool, ⊤, List, [], ◌∷◌, ◌++◌, length, codes, All, if◌then◌else◌}
+use Rattle.std.specs.List.{flat_map}
 use Rattle.corten_base.specs.declared.calls.MapPlace.{MapPlace}
 use Rattle.corten_base.specs.declared.calls.MapPlace.TheVariants as place
 use Rattle.corten_base.specs.declared.calls.Backing.{Backing}
@@ -23,16 +25,19 @@ abbrev pub backing_words : Backing → List (List ℕ)
 backing_words backing.Zero = codes "zero" ∷ []
 backing_words (backing.File file index) = codes "file" ∷ number file ∷ number index ∷ []
 
+-- whether a mapping replaces pages or needs an empty place
+abbrev pub fresh_word : Bool → List ℕ
+fresh_word fresh = if fresh then codes "new" else codes "at"
+
 abbrev pub op_words : TxnOp → List (List ℕ)
 op_words (op.Map at fresh len perm what) =
-    codes "map" ∷ (if fresh then codes "new" else codes "at") ∷ address at ∷ number len ∷ permission perm ∷ backing_words what
+    codes "map" ∷ fresh_word fresh ∷ address at ∷ number len ∷ permission perm ∷ backing_words what
 op_words (op.Unmap at len) = codes "unmap" ∷ address at ∷ number len ∷ []
 op_words (op.Protect at len perm) = codes "protect" ∷ address at ∷ number len ∷ permission perm ∷ []
 
 -- each operation behind the word `;`
 abbrev pub more_ops_words : List TxnOp → List (List ℕ)
-more_ops_words [] = []
-more_ops_words (o ∷ ops) = codes ";" ∷ (op_words o ++ more_ops_words ops)
+more_ops_words ops = flat_map (λ o. codes ";" ∷ op_words o) ops
 
 -- the word `;` between two
 abbrev pub ops_words : List TxnOp → List (List ℕ)
@@ -57,6 +62,10 @@ call_words (call.Exit space) = codes "exit" ∷ number space ∷ []
 call_words (call.SwapOut space at len) = codes "out" ∷ number space ∷ address at ∷ number len ∷ []
 call_words (call.SwapIn space at len) = codes "in" ∷ number space ∷ address at ∷ number len ∷ []
 call_words (call.Txn space at len ops) = codes "txn" ∷ number space ∷ address at ∷ number len ∷ ops_words ops
+
+-- each word behind a space
+abbrev pub spaced : List (List ℕ) → List ℕ
+spaced words = flat_map (λ word. 32 ∷ word) words
 
 abbrev pub call_line : Call → List ℕ
 call_line c = joined (call_words c)
@@ -84,7 +93,15 @@ IsBacking (backing.File file index) = IsWithin 0 15 file × IsNumber index
 abbrev pub IsAccess : ℕ → Type 0
 IsAccess bytes = IsWithin 1 4096 bytes
 
--- all calls but transactions so far
+abbrev pub IsOp : TxnOp → Type 0
+IsOp (op.Map at fresh len perm what) = IsNumber at × IsNumber len × IsBacking what
+IsOp (op.Unmap at len) = IsNumber at × IsNumber len
+IsOp (op.Protect at len perm) = IsNumber at × IsNumber len
+
+-- the operations of a transaction
+abbrev pub AreOps : List TxnOp → Type 0
+AreOps ops = IsWithin 1 16 (length ops) × All IsOp ops
+
 abbrev pub IsCall : Call → Type 0
 IsCall (call.Map space at len perm what) = IsSpace space × IsPlace at × IsNumber len × IsBacking what
 IsCall (call.Unmap space at len) = IsSpace space × IsNumber at × IsNumber len
@@ -97,4 +114,13 @@ IsCall (call.Fork space) = IsSpace space
 IsCall (call.Exit space) = IsSpace space
 IsCall (call.SwapOut space at len) = IsSpace space × IsNumber at × IsNumber len
 IsCall (call.SwapIn space at len) = IsSpace space × IsNumber at × IsNumber len
-IsCall _ = ⊥
+IsCall (call.Txn space at len ops) = IsSpace space × IsNumber at × IsNumber len × AreOps ops
+
+-- words that do not go on with a further operation
+abbrev pub IsNoMore : List (List ℕ) → Type 0
+IsNoMore words = (rest : List (List ℕ)) → words ≢ codes ";" ∷ rest
+
+-- a transaction has all operations that stand there
+abbrev pub EndsCall : Call → List (List ℕ) → Type 0
+EndsCall (call.Txn space at len ops) rest = IsNoMore rest
+EndsCall _ rest = ⊤

@@ -17,6 +17,7 @@ pub(crate) enum CallName {
     Exit,
     SwapOut,
     SwapIn,
+    Txn,
 }
 
 /// Which call's first word this is.
@@ -46,6 +47,8 @@ pub(crate) fn call_name(word: &[u8]) -> Option<CallName>
         Some(CallName::SwapOut)
     } else if word == b"in".as_slice() {
         Some(CallName::SwapIn)
+    } else if word == b"txn".as_slice() {
+        Some(CallName::Txn)
     } else {
         None
     }

@@ -3,24 +3,27 @@ ghost use Rattle.std.specs.Prelude.{◌≡◌, ◌≢◌, ℕ, ◌<◌, Bool, Li
 ghost use Rattle.corten_base.specs.declared.permissions.Perm.{Perm};
 ghost use Rattle.corten_base.specs.declared.calls.MapPlace.{MapPlace};
 ghost use Rattle.corten_base.specs.declared.calls.Backing.{Backing};
+ghost use Rattle.corten_base.specs.declared.calls.TxnOp.{TxnOp};
 ghost use Rattle.corten_base.specs.declared.calls.Call.{Call};
 ghost use Rattle.text_words.specs.Spelling.{number, address, hex, permission};
-ghost use Rattle.mm_script.specs.CallLine.{place_words, backing_words, access_word, call_words, call_line, IsSpace, IsNumber, IsPlace, IsBacking, IsAccess, IsCall};
+ghost use Rattle.mm_script.specs.CallLine.{place_words, backing_words, access_word, call_words, call_line, IsSpace, IsNumber, IsPlace, IsBacking, IsAccess, IsCall, ops_words, AreOps, IsNoMore, EndsCall};
 
 use crate::call_names::{CallName, call_name};
 use crate::call_words::{
     next_access, next_address, next_backing, next_bytes, next_number, next_perm, next_place,
     next_space, next_write,
 };
+use crate::ops::next_ops;
 use corten_base::Call;
 use std::alloc::{AllocError, Global};
 use text_words::Words;
 
 /// Takes the words of a call from the front of those that are left.
 pub fn next_call(alloc: Global, words: &mut Words<'_>) -> Result<Option<Call>, AllocError>
-    ensures found { IfOk result (λ read. IfSome read (λ call. IsCall call × (words.old ≡ call_words call ++ words.new))) }
+    ensures found { IfOk result (λ read. IfSome read (λ call.
+        IsCall call × EndsCall call words.new × (words.old ≡ call_words call ++ words.new))) }
     ensures none { IfOk result (λ read. IfNone read ((call : Call) (rest : List (List ℕ)) →
-        IsCall call → words.old ≢ call_words call ++ rest)) }
+        IsCall call → EndsCall call rest → words.old ≢ call_words call ++ rest)) }
 {
     let Some(word) = words.next_word() else {
         return Ok(None);
@@ -40,6 +43,7 @@ pub fn next_call(alloc: Global, words: &mut Words<'_>) -> Result<Option<Call>, A
         CallName::Exit => Ok(next_exit(words)),
         CallName::SwapOut => Ok(next_out(words)),
         CallName::SwapIn => Ok(next_in(words)),
+        CallName::Txn => next_txn(alloc, words),
     }
 }
 
@@ -177,6 +181,34 @@ fn next_in(words: &mut Words<'_>) -> Option<Call>
         at: next_address(words)?,
         len: next_number(words)?,
     })
+}
+
+/// Takes the words of a `txn` behind that word.
+fn next_txn(alloc: Global, words: &mut Words<'_>) -> Result<Option<Call>, AllocError>
+    ensures found { IfOk result (λ read. IfSome read (λ call.
+        IsCall call × EndsCall call words.new × (codes "txn" ∷ words.old ≡ call_words call ++ words.new))) }
+    ensures none { IfOk result (λ read. IfNone read ((space at len : ℕ) (ops : List TxnOp) (rest : List (List ℕ)) →
+        IsSpace space → IsNumber at → IsNumber len → AreOps ops → IsNoMore rest →
+        words.old ≢ number space ∷ address at ∷ number len ∷ (ops_words ops ++ rest))) }
+{
+    let Some(space) = next_space(words) else {
+        return Ok(None);
+    };
+    let Some(at) = next_address(words) else {
+        return Ok(None);
+    };
+    let Some(len) = next_number(words) else {
+        return Ok(None);
+    };
+    let Some(ops) = next_ops(alloc, words)? else {
+        return Ok(None);
+    };
+    Ok(Some(Call::Txn {
+        space,
+        at,
+        len,
+        ops,
+    }))
 }
 
 /// The call whose line this is.

@@ -2,7 +2,7 @@
 ghost use Rattle.std.specs.Prelude.{◌≡◌, ℕ, List, ◌++◌};
 ghost use Rattle.corten_base.specs.declared.calls.Call.{Call};
 ghost use Rattle.mm_script.specs.declared.script.Script.{Script};
-ghost use Rattle.mm_script.specs.CallLine.{call_words, call_line, IsCall};
+ghost use Rattle.mm_script.specs.CallLine.{call_words, call_line, IsCall, EndsCall};
 ghost use Rattle.mm_script.specs.ScriptText.{IsScriptText, IsFirstFault};
 
 /// A line is that of one call at most.
@@ -12,7 +12,7 @@ pub fn a_line_has_one_call()
 
 /// Words begin with the words of one call at most.
 pub fn words_begin_with_one_call()
-    ensures { (a b : Call) (x y : List (List ℕ)) → IsCall a → IsCall b →
+    ensures { (a b : Call) (x y : List (List ℕ)) → IsCall a → IsCall b → EndsCall a x → EndsCall b y →
         call_words a ++ x ≡ call_words b ++ y → (a ≡ b) × (x ≡ y) }
 {}
 

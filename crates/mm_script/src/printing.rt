@@ -4,14 +4,15 @@ ghost use Rattle.corten_base.specs.declared.calls.Call.{Call};
 ghost use Rattle.text_words.specs.Spelling.{number, address};
 ghost use Rattle.text_words.specs.Layout.{joined};
 ghost use Rattle.text_words.specs.Printed.{spelled};
-ghost use Rattle.mm_script.specs.CallLine.{place_words, backing_words, call_line, IsCall};
+ghost use Rattle.mm_script.specs.CallLine.{place_words, backing_words, call_line};
 
-use corten_base::{Backing, Call, MapPlace, Perm, SpaceId, TextBytes};
+use crate::printing_ops::push_ops;
+use corten_base::{Backing, Call, MapPlace, Perm, SpaceId, TextBytes, TxnOp};
 use std::alloc::{AllocError, Global};
 use text_words::{Word, push_words};
 
 /// Appends a space and words behind it, and without memory some bytes of them.
-fn push_more(out: &mut Vec<u8>, words: &[Word<'_>]) -> Result<(), AllocError>
+pub(crate) fn push_more(out: &mut Vec<u8>, words: &[Word<'_>]) -> Result<(), AllocError>
     ensures ok { OnOk result (out.new.items ≡ out.old.items ++ 32 ∷ joined (map spelled words.now)) }
     ensures err { OnErr result (take (length out.old.items) out.new.items ≡ out.old.items) }
 {
@@ -32,7 +33,7 @@ fn push_place(out: &mut Vec<u8>, place: MapPlace) -> Result<(), AllocError>
 }
 
 /// Appends a space and the words of a backing, and without memory some bytes of them.
-fn push_backing(out: &mut Vec<u8>, backing: Backing) -> Result<(), AllocError>
+pub(crate) fn push_backing(out: &mut Vec<u8>, backing: Backing) -> Result<(), AllocError>
     ensures ok { OnOk result (out.new.items ≡ out.old.items ++ 32 ∷ joined (backing_words backing)) }
     ensures err { OnErr result (take (length out.old.items) out.new.items ≡ out.old.items) }
 {
@@ -140,9 +141,23 @@ fn push_protect(
     push_more(out, &[Word::Permission(perm)])
 }
 
+/// Appends the line of a `txn`, and without memory some bytes of it.
+fn push_txn(
+    out: &mut Vec<u8>,
+    space: SpaceId,
+    at: u64,
+    len: u64,
+    ops: &[TxnOp],
+) -> Result<(), AllocError>
+    ensures ok { OnOk result (out.new.items ≡ out.old.items ++ call_line (Call.Txn space at len ops.now)) }
+    ensures err { OnErr result (take (length out.old.items) out.new.items ≡ out.old.items) }
+{
+    push_range(out, b"txn", space, at, len)?;
+    push_ops(out, ops)
+}
+
 /// Appends the line of a call, without a newline, and without memory some bytes of it.
 fn push_parts(out: &mut Vec<u8>, call: &Call) -> Result<(), AllocError>
-    requires { IsCall call.now }
     ensures ok { OnOk result (out.new.items ≡ out.old.items ++ call_line call.now) }
     ensures err { OnErr result (take (length out.old.items) out.new.items ≡ out.old.items) }
 {
@@ -174,13 +189,17 @@ fn push_parts(out: &mut Vec<u8>, call: &Call) -> Result<(), AllocError>
         Call::Exit { space } => push_space(out, b"exit", *space),
         Call::SwapOut { space, at, len } => push_range(out, b"out", *space, *at, *len),
         Call::SwapIn { space, at, len } => push_range(out, b"in", *space, *at, *len),
-        Call::Txn { .. } => unreachable!(),
+        Call::Txn {
+            space,
+            at,
+            len,
+            ops,
+        } => push_txn(out, *space, *at, *len, ops.ops()),
     }
 }
 
 /// Appends the line of a call, without a newline. Without memory nothing is appended.
 pub fn push_call(out: &mut Vec<u8>, call: &Call) -> Result<(), AllocError>
-    requires { IsCall call.now }
     ensures ok { OnOk result (out.new.items ≡ out.old.items ++ call_line call.now) }
     ensures err { OnErr result (out.new.items ≡ out.old.items) }
 {
@@ -194,7 +213,6 @@ pub fn push_call(out: &mut Vec<u8>, call: &Call) -> Result<(), AllocError>
 
 /// The line of a call, without a newline.
 pub fn print_call(alloc: Global, call: &Call) -> Result<TextBytes, AllocError>
-    requires { IsCall call.now }
     ensures { IfOk result (λ text. text ≡ call_line call.now) }
 {
     let mut out = Vec::new(alloc);

@@ -52,6 +52,9 @@ fn call_lines_are_read_and_printed(rt: HostRuntime) -> Result<(), Fail> {
         b"exit 63".as_slice(),
         b"out 0 0x8000000000 4096".as_slice(),
         b"in 1 0x8000000000 8192".as_slice(),
+        b"txn 0 0x8000000000 8192 map new 0x8000000000 4096 rw- zero ; unmap 0x8000001000 1".as_slice(),
+        b"txn 63 0x0 0 protect 0x0 18446744073709551615 --x".as_slice(),
+        b"txn 0 0x0 0 map at 0x0 1 r-- file 3 7 ; map at 0x0 1 --- zero".as_slice(),
     ] {
         let call = read_call(rt.alloc(), line)?.ok_or("this is a call's line")?;
         let text = print_call(rt.alloc(), &call)?;
@@ -134,6 +137,18 @@ fn threads_have_their_calls(rt: HostRuntime) -> Result<(), Fail> {
     Ok(())
 }
 
+#[test]
+fn a_transaction_has_at_most_16_operations(rt: HostRuntime) -> Result<(), Fail> {
+    let mut line = Vec::from_slice(rt.alloc(), b"txn 0 0x10000 4096 unmap 0x10000 1")?;
+    for _ in 1..16 {
+        line.extend_from_slice(b" ; unmap 0x10000 1")?;
+    }
+    assert!(rt; read_call(rt.alloc(), &line)?.is_some());
+    line.extend_from_slice(b" ; unmap 0x10000 1")?;
+    assert!(rt; read_call(rt.alloc(), &line)?.is_none());
+    Ok(())
+}
+
 /// The number behind `bad`, or 0.
 fn bad(rt: &HostRuntime, bytes: &[u8]) -> u64 {
     match read_script(rt.alloc(), bytes) {
@@ -199,6 +214,12 @@ fn spellings_of_no_call(rt: HostRuntime) -> Result<(), Fail> {
         b"out 0 0x0".as_slice(),
         b"in 0 0 1".as_slice(),
         b"txn 0 0x10000 4096".as_slice(),
+        b"txn 0 0x10000 4096 unmap 0x10000 1 ;".as_slice(),
+        b"txn 0 0x10000 4096 unmap 0x10000 1 unmap 0x10000 1".as_slice(),
+        b"txn 0 0x10000 4096 ; unmap 0x10000 1".as_slice(),
+        b"txn 0 0x10000 4096 unmap 0x10000 1; unmap 0x10000 1".as_slice(),
+        b"txn 0 0x10000 4096 map any 1 rw- zero".as_slice(),
+        b"txn 0 0x10000 4096 load 0x10000 1".as_slice(),
     ] {
         assert!(rt; read_call(rt.alloc(), line)?.is_none());
     }

@@ -88,6 +88,16 @@ fn two_spaces_have_an_empty_word_between_them(rt: HostRuntime) {
 }
 
 #[test]
+fn a_word_is_taken_where_it_is_the_next(rt: HostRuntime) {
+    let mut words = Words::of(b"load ; 0");
+    assert!(rt; !words.take_word(b";"));
+    assert_eq!(rt; words.next_word().map(|word| word.len()), Some(4));
+    assert!(rt; words.take_word(b";"));
+    assert!(rt; words.take_word(b"0"));
+    assert!(rt; !words.take_word(b""));
+}
+
+#[test]
 fn a_line_ends_with_its_newline(rt: HostRuntime) {
     let mut lines = Lines::of(b"one\n\nrest");
     assert_eq!(rt; lines.next_line().map(|line| line.len()), Some(3));

@@ -1,5 +1,6 @@
 //! The words of a line.
-ghost use Rattle.std.specs.Prelude.{◌≡◌, [], ◌∷◌, ◌↔◌, IsTrue, IfSome, IfNone};
+ghost use Rattle.std.specs.Prelude.{◌≡◌, ◌≢◌, ℕ, List, [], ◌∷◌, ◌↔◌, IsTrue, IfSome, IfNone};
+ghost use Rattle.std.specs.Bool.{OnTrue, OnFalse};
 ghost use Rattle.text_words.specs.Layout.{words_of};
 
 use crate::cut::cut_at;
@@ -51,6 +52,24 @@ impl<'a> Words<'a> {
                 Some(self.rest)
             }
         }
+    }
+
+    /// Takes the next word if it is this one, and else none.
+    pub fn take_word(&mut self, word: &[u8]) -> bool
+        ensures taken { OnTrue result (self.old ≡ word.now ∷ self.new) }
+        ensures other { OnFalse result ((rest : List (List ℕ)) → self.old ≢ word.now ∷ rest) }
+        ensures stays { OnFalse result (self.new ≡ self.old) }
+    {
+        let rest = self.rest;
+        let done = self.done;
+        if let Some(next) = self.next_word()
+            && next == word
+        {
+            return true;
+        }
+        self.rest = rest;
+        self.done = done;
+        false
     }
 
     /// Whether no word is left.

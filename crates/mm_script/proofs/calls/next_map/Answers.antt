@@ -1,7 +1,7 @@
 use Rattle.std.proofs.Common.{◌∷◌, ◌++◌}
 use Rattle.text_words.specs.Spelling.{permission}
 use Rattle.mm_script.specs.CallLine.{backing_words}
-use Rattle.mm_script.proofs.OneCall.{no_length}
+use Rattle.mm_script.proofs.OneArgument.{no_length}
 use Rattle.mm_script.proofs.calls.next_map.Goals as goal
 
 pub returns-in_err-next_number-clause-none : goal.returns-in_err-next_number-clause-none
