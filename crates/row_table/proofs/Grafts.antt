@@ -235,13 +235,13 @@ record IsOpened (v v2 : View) (row g : ℕ) : Type 0 where
   pub outside : v2.core.stand ≡ None
   pub has_not : v2.core.has_book ≡ false
 
-open_one : (v v1 v2 : View) (row g : ℕ) → HasGrant v row g → v1 ≡ prepared v row child_place g → (at : IsSetUp v1 row) → v2 ≡ opened v1 row at.place → IsOpened v v2 row g
+open_one : (v v1 v2 : View) (row g : ℕ) → HasGrant v row g → v1 ≡ prepared v row child_place g → (at : IsSetUp v1 row) → v2 ≡ opened v1 row at.place at.known.generation → IsOpened v v2 row g
 open_one v v1 v2 row g may e1 at e2 =
-    let is = set_up_one v v1 row g may e1 in let child : HeldRow ℕ = opened_row row at.place in record {
+    let is = set_up_one v v1 row g may e1 in let child : HeldRow ℕ = opened_row row at.place at.known.generation in record {
       child = child;
       child_there = subst (λ (l : List (HeldRow ℕ)). Contains l child) (sym (ap (λ (u : View). u.rows) e2)) (Contains-append_right v1.rows (child ∷ []) child (in_head child []));
       child_row = refl;
-      child_place = at.same is.hand_row is.in_hand is.same_row child_place is.place;
+      child_place = (let same = at.only is.hand_row is.in_hand is.same_row in let shown : Some at.place ≡ Some child_place = sym at.is_set ∙ (ap (λ (x : HandRow). x.place) (sym same) ∙ is.place) in cc);
       child_words = refl;
       root_there = λ h i. subst (λ (l : List (HeldRow ℕ)). Contains l h) (sym (ap (λ (u : View). u.rows) e2 ∙ ap (λ (u : View). u.rows ++ child ∷ []) e1)) (Contains-append_left v.rows (child ∷ []) h i);
       hand_row = is.hand_row;
@@ -258,7 +258,7 @@ open_one v v1 v2 row g may e1 at e2 =
     }
 
 -- the entry of row 1 may link it
-pub may_link_one : (v v1 v2 : View) (row g word : ℕ) → HasGrant v row g → v1 ≡ prepared v row child_place g → (at : IsSetUp v1 row) → v2 ≡ opened v1 row at.place → word ≡ 519 + 4096 * row + 4194304 * g → MaySetEntry v2 1 5 word
+pub may_link_one : (v v1 v2 : View) (row g word : ℕ) → HasGrant v row g → v1 ≡ prepared v row child_place g → (at : IsSetUp v1 row) → v2 ≡ opened v1 row at.place at.known.generation → word ≡ 519 + 4096 * row + 4194304 * g → MaySetEntry v2 1 5 word
 may_link_one v v1 v2 row g word may e1 at e2 is =
     let o = open_one v v1 v2 row g may e1 at e2 in let l = link_of word row g may.small may.few is in let root = may.root in record {
       linker = root.row_one;
@@ -280,7 +280,7 @@ may_link_one v v1 v2 row g word may e1 at e2 is =
       }));
     }
 
-pub holds_root : (v v1 v2 : View) (row g : ℕ) → HasGrant v row g → v1 ≡ prepared v row child_place g → (at : IsSetUp v1 row) → v2 ≡ opened v1 row at.place → Has v2.core.held 1
+pub holds_root : (v v1 v2 : View) (row g : ℕ) → HasGrant v row g → v1 ≡ prepared v row child_place g → (at : IsSetUp v1 row) → v2 ≡ opened v1 row at.place at.known.generation → Has v2.core.held 1
 holds_root v v1 v2 row g may e1 at e2 = let o = open_one v v1 v2 row g may e1 at e2 in
     let same = ap (times 1) o.held in let one = times-cons_same 1 1 (row ∷ []) refl in omega arith
 
@@ -316,7 +316,7 @@ record IsGrafted (v v3 : View) (row word : ℕ) : Type 0 where
   pub outside : v3.core.stand ≡ None
   pub has_not : v3.core.has_book ≡ false
 
-link_one : (v v1 v2 v3 : View) (row g word : ℕ) → HasGrant v row g → v1 ≡ prepared v row child_place g → (at : IsSetUp v1 row) → v2 ≡ opened v1 row at.place → word ≡ 519 + 4096 * row + 4194304 * g → Sets 1 5 word v2 v3 → IsGrafted v v3 row word
+link_one : (v v1 v2 v3 : View) (row g word : ℕ) → HasGrant v row g → v1 ≡ prepared v row child_place g → (at : IsSetUp v1 row) → v2 ≡ opened v1 row at.place at.known.generation → word ≡ 519 + 4096 * row + 4194304 * g → Sets 1 5 word v2 v3 → IsGrafted v v3 row word
 link_one v v1 v2 v3 row g word may e1 at e2 is sets =
     let o = open_one v v1 v2 row g may e1 at e2 in let l = link_of word row g may.small may.few is in let root = may.root in let r : HeldRow ℕ = root.row_one in
     let c : ℕ = link_row word in
@@ -354,7 +354,7 @@ link_one v v1 v2 v3 row g word may e1 at e2 is sets =
       has_not = ap (λ (u : View). u.core.has_book) e3 ∙ o.has_not;
     }
 
-module _ (v v1 v2 v3 v4 v5 : View) (row g word : ℕ) (may : HasGrant v row g) (e1 : v1 ≡ prepared v row child_place g) (at : IsSetUp v1 row) (e2 : v2 ≡ opened v1 row at.place)
+module _ (v v1 v2 v3 v4 v5 : View) (row g word : ℕ) (may : HasGrant v row g) (e1 : v1 ≡ prepared v row child_place g) (at : IsSetUp v1 row) (e2 : v2 ≡ opened v1 row at.place at.known.generation)
     (is : word ≡ 519 + 4096 * row + 4194304 * g) (sets : Sets 1 5 word v2 v3) where
   linked : IsGrafted v v3 row word
   linked = link_one v v1 v2 v3 row g word may e1 at e2 is sets

@@ -2,6 +2,7 @@ pub mod Stacks
 pub mod Shown
 pub mod Frames
 pub mod Views
+pub mod Hands
 pub mod Locks
 pub mod Beside
 pub mod Known

@@ -28,10 +28,11 @@ use Rattle.row_table.specs.declared.view.HandRow.{HandRow}
 use Rattle.row_table.specs.Plan.{Meaning}
 use Rattle.row_table.specs.Vacant.{all_entries, IsUnder, KeepsVacant}
 use Rattle.row_table.specs.Rows.{row_words, place_at, lock_of, generation_of}
-use Rattle.row_table.specs.Rule.{Seat, Table, levels_of, view, IsOne, row_part, hand_part, core_of, IsHeldRow, Knows, Holds}
+use Rattle.row_table.specs.Rule.{Seat, Table, levels_of, view, IsOne, row_part, hand_part, hand_state, granted_state, core_of, IsHeldRow, Knows, Holds}
 use Rattle.row_table.specs.Moves.{NotInHand}
 use Rattle.row_table.specs.Links.{with_word, newly_linked, with_link, word_set, link_set, entry_set, entry_cut, LinksHand, MaySetEntry, SetTells, MayUnlink, CutTells}
 use Rattle.row_table.proofs.Shown.{word_at, words_long}
+use Rattle.row_table.proofs.Hands.{rows_granted, states_kept}
 use Rattle.row_table.proofs.Views.{kept, pass_is, held_of_row, has_held, is_linked}
 use Rattle.row_table.proofs.Turns.{same_parts, contained_map}
 use Rattle.row_table.proofs.Spans.{level_of, below_is, entry_page}
@@ -113,7 +114,7 @@ module _ {R B E : Type 0} (M : Meaning R B E) where
     entry_knows : (b : B) (v : PassView R B E) (gs : List GrantedRow) (ds : List UnlinkedRow) (f : HeldRow R → HeldRow R) (hand : List HandRow) → Knows M k first ws b v
         → ((h : HeldRow R) → (f h).row ≡ h.row)
         → ((h : HeldRow R) → Contains v.rows h → IsHeldRow M k us b (record v { core = record v.core { granted = gs; unlinked = ds }; rows = map f v.rows; hand = hand }) (f h))
-        → map hand_part hand ≡ map (λ g. g.row) gs → ((y : HandRow) → Contains hand y → Contains v.hand y)
+        → map hand_state hand ≡ map granted_state gs → ((y : HandRow) → Contains hand y → Contains v.hand y)
         → ((h : HeldRow R) → Contains v.rows h → times_in_hand h.row (record v.core { granted = gs; unlinked = ds }) ≡ 0 → KeepsVacant M (levels_of k) b v.last (f h))
         → Knows M k first us b (record v { core = record v.core { granted = gs; unlinked = ds }; rows = map f v.rows; hand = hand })
     entry_knows b v gs ds f hand old same rows granted in_hand vacant = record {
@@ -142,14 +143,14 @@ module _ {R B E : Type 0} (M : Meaning R B E) where
           there = old.there;
           shown = words_here h e old.shown;
           place = place_stays h.row ∙ old.place;
-          generation = λ g e. generation_stays h.row ∙ old.generation g e;
+          generation = generation_stays h.row ∙ old.generation;
           agrees = λ z. let a = old.agrees (out z) in record { found = a.found; given = λ g c is. a.given g c (sym last ∙ is) };
         }))
         (λ ne. subst (IsHeldRow M k us b w) (sym (is_other h ne)) (record {
           there = old.there;
           shown = (shows h.row ne).words ∙ old.shown;
           place = place_stays h.row ∙ old.place;
-          generation = λ g e. generation_stays h.row ∙ old.generation g e;
+          generation = generation_stays h.row ∙ old.generation;
           agrees = λ z. let a = old.agrees (out z) in record { found = a.found; given = λ g c is. a.given g c (sym last ∙ is) };
         }))
 
@@ -228,7 +229,7 @@ module _ {R B E : Type 0} (M : Meaning R B E) where
       w = link_set v linker i x
 
       granted_child : Has (granted_rows v.core) child
-      granted_child = subst (Has (granted_rows v.core)) may.same_row (subst (λ (l : List ℕ). Has l may.hand_row.row) know.granted (has_part hand_part v.hand may.hand_row may.granted))
+      granted_child = subst (Has (granted_rows v.core)) may.same_row (subst (λ (l : List ℕ). Has l may.hand_row.row) (rows_granted v.hand v.core.granted know.granted) (has_part hand_part v.hand may.hand_row may.granted))
 
       child_out : 1 ≤ times_out c child
       child_out = let all = h.good.sizes.passes in let low = know.there in let hand = hand-le-out c v.number child (omega arith) in
@@ -296,7 +297,7 @@ module _ {R B E : Type 0} (M : Meaning R B E) where
             there = o.there;
             shown = (shows k first s.words r i x there inside (near_word i inside) y.row (λ f. child_not_here (sym e ∙ f))).words ∙ o.shown;
             place = place_stays k first s.words r i x there inside (near_word i inside) y.row ∙ o.place;
-            generation = λ g e. generation_stays k first s.words r i x there inside (near_word i inside) y.row ∙ o.generation g e;
+            generation = generation_stays k first s.words r i x there inside (near_word i inside) y.row ∙ o.generation;
             agrees = λ _. record {
               found = λ z u f. absurd (cc);
               given = λ vacant a last words u agrees. kept_below vacant a last y.place (under_same y.place (entry_place (levels_of k) linker.place i) (place_of_child y j e)
@@ -308,14 +309,14 @@ module _ {R B E : Type 0} (M : Meaning R B E) where
             there = o.there;
             shown = words_here k first s.words r i x there inside (near_word i inside) y e o.shown;
             place = place_stays k first s.words r i x there inside (near_word i inside) y.row ∙ o.place;
-            generation = λ g e. generation_stays k first s.words r i x there inside (near_word i inside) y.row ∙ o.generation g e;
+            generation = generation_stays k first s.words r i x there inside (near_word i inside) y.row ∙ o.generation;
             agrees = λ z. let a = o.agrees (still_out y.row nc z) in record { found = a.found; given = a.given };
           }))
           (λ nr. let o = know.rows y j in subst (IsHeldRow M k (set s.words (515 * r + i) x) h.book w) (sym (of_other y nc nr)) (record {
             there = o.there;
             shown = (shows k first s.words r i x there inside (near_word i inside) y.row nr).words ∙ o.shown;
             place = place_stays k first s.words r i x there inside (near_word i inside) y.row ∙ o.place;
-            generation = λ g e. generation_stays k first s.words r i x there inside (near_word i inside) y.row ∙ o.generation g e;
+            generation = generation_stays k first s.words r i x there inside (near_word i inside) y.row ∙ o.generation;
             agrees = λ z. let a = o.agrees (still_out y.row nc z) in record { found = a.found; given = a.given };
           })))
 
@@ -371,7 +372,7 @@ module _ {R B E : Type 0} (M : Meaning R B E) where
           (entry_knows k first s.words r i x there inside (near_word i inside) h.book v gs v.core.unlinked (λ y. with_link linker i child (with_word r i x y)) (filter (λ (y : HandRow). not (eqb y.row child)) v.hand) know
           link_row_same
           linked_row
-          (parts_without hand_part child v.hand ∙ (ap (without child) know.granted ∙ (sym (parts_without (λ (g : GrantedRow). g.row) child v.core.granted) ∙ ap (map (λ (g : GrantedRow). g.row)) (sym gs_is))))
+          (states_kept child v.hand v.core.granted know.granted ∙ ap (map granted_state) (sym gs_is))
           (λ y j. (kept (λ (u : HandRow). not (eqb u.row child)) v.hand y j).1)
           linked_vacant)
 

@@ -66,17 +66,17 @@ module _ {R B E : Type 0} {n rows : ℕ} {id : TableId} {v : PassView R B E} (ol
         (part_keeps_rows r (Generation generation) (granted_after_part r (Position place) v.core.granted) ∙ part_keeps_rows r (Position place) v.core.granted) has);
   }
 
-  pub sized_opened : (r : ℕ) (place : Place) → IsSized n rows id (opened v r place)
-  sized_opened r place = record {
+  pub sized_opened : (r : ℕ) (place : Place) (generation : ℕ) → IsSized n rows id (opened v r place generation)
+  sized_opened r place generation = record {
     slots = old.slots;
     words = old.words;
     rows_are = old.rows_are;
     number = old.number;
     stand = old.stand;
     links = λ h i. ⊎_elim (λ (j : Contains v.rows h). old.links h j)
-        (λ (e : opened_row r place ≡ h). subst (λ (y : HeldRow R). LinksBelow rows y.words) e
+        (λ (e : opened_row r place generation ≡ h). subst (λ (y : HeldRow R). LinksBelow rows y.words) e
         (λ j inside link. let clash : true ≡ false = sym link ∙ (ap is_link (blank_zero j inside) ∙ zero_no_link) in absurd (cc)))
-        (Contains-push_cases v.rows (opened_row r place) h i);
+        (Contains-push_cases v.rows (opened_row r place generation) h i);
     granted = old.granted;
   }
 

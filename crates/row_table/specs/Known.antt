@@ -55,7 +55,7 @@ module _ {R B E : Type 0} where
   -- the generation of the stand on the row, of the held row, and in the entry of a held row that links it
   pub record IsKnownGeneration (v : PassView R B E) (row generation : ℕ) : Type 0 where
     pub of_stand : (s : Stand) → v.core.stand ≡ Some s → s.row ≡ row → generation ≡ s.generation
-    pub of_held : (h : HeldRow R) → Contains v.rows h → h.row ≡ row → (g : ℕ) → h.generation ≡ Some g → generation ≡ g
+    pub of_held : (h : HeldRow R) → Contains v.rows h → h.row ≡ row → generation ≡ h.generation
     pub of_entry : (l : LinksRow v row) → generation ≡ link_generation (slice_index l.linker.words l.index)
 
   -- the pass s holds the row: it is the pass itself where that holds the row, and else another one
