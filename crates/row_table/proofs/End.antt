@@ -47,7 +47,7 @@ joined id other n x = cond (x.0 == other) (id, n + x.1) x
 abbrev chosen : Bool → ℕ × ℕ → ℕ × ℕ → ℕ × ℕ
 chosen b x y = cond b x y
 
-contained_at : {A : Type 0} (xs : List A) (x : A) → Contains xs x → (i : ℕ) × (get_elem? xs i ≡ some x)
+pub contained_at : {A : Type 0} (xs : List A) (x : A) → Contains xs x → (i : ℕ) × (get_elem? xs i ≡ some x)
 contained_at [] x (k, less, is) = absurd (omega arith)
 contained_at (y ∷ ys) x (zero, less, is) = (0, ap some is)
 contained_at (y ∷ ys) x (suc k, less, is) = let o = contained_at ys x (k, omega arith, is) in (suc o.0, o.1)

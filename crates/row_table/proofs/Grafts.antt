@@ -13,7 +13,7 @@ use Rattle.walk_core.specs.Lists.{times, Has, without}
 use Rattle.walk_core.specs.Core.{unlinked_rows}
 use Rattle.walk_core.specs.Events.{top, newly_granted, newly_unlinked, granted_after_part, granted_after_entry, unlinked_after_give, stand_after_look}
 use Rattle.walk_core.specs.Guards.{StandsOn, put_rows}
-use Rattle.walk_core.proofs.RowLists.{times-nil, times-cons_same, times-cons_other, times-append, times_one_same, times_one_other, among_true}
+use Rattle.walk_core.proofs.RowLists.{times-nil, times-cons_other, times-append, times_one_same, times_one_other, among_true}
 use Rattle.walk_core.proofs.Spellings.{link_word_is, link_row-link_word, link_generation-link_word, is_link-link_word, zero_no_link}
 use Rattle.row_layout.specs.declared.places.Layout.{Layout}
 use Rattle.row_table.specs.declared.view.HeldRow.{HeldRow}
@@ -280,10 +280,6 @@ may_link_one v v1 v2 row g word may e1 at e2 is =
       }));
     }
 
-pub holds_root : (v v1 v2 : View) (row g : ℕ) → HasGrant v row g → v1 ≡ prepared v row child_place g → (at : IsSetUp v1 row) → v2 ≡ opened v1 row at.place at.known.generation → Has v2.core.held 1
-holds_root v v1 v2 row g may e1 at e2 = let o = open_one v v1 v2 row g may e1 at e2 in
-    let same = ap (times 1) o.held in let one = times-cons_same 1 1 (row ∷ []) refl in omega arith
-
 kept_in : {X : Type 0} (t : X → Bool) (xs : List X) (x : X) → Contains xs x → t x ≡ true → Contains (filter t xs) x
 kept_in t [] x i e = let less = i.1 in absurd (omega arith)
 kept_in {X} t (y ∷ ys) x i e = ⊎_elim
@@ -358,9 +354,6 @@ module _ (v v1 v2 v3 v4 v5 : View) (row g word : ℕ) (may : HasGrant v row g) (
     (is : word ≡ 519 + 4096 * row + 4194304 * g) (sets : Sets 1 5 word v2 v3) where
   linked : IsGrafted v v3 row word
   linked = link_one v v1 v2 v3 row g word may e1 at e2 is sets
-
-  pub holds_root_still : Has v3.core.held 1
-  holds_root_still = let o = linked in let same = ap (times 1) o.held in let one = times-cons_same 1 1 (row ∷ []) refl in omega arith
 
   pub may_cut_one : MayUnlink v3 1 5
   may_cut_one = let o = linked in let l = link_of word row g may.small may.few is in record {

@@ -24,3 +24,5 @@ pub mod Sized
 pub mod Stock
 pub mod Grafts
 pub mod Visits
+pub mod Standing
+pub mod Closings

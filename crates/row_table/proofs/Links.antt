@@ -79,14 +79,24 @@ under_row levels p q j low inside u =
 under_same : (p q : Place) → p ≡ q → 1 ≤ p.level → IsUnder p q
 under_same p q e lowest = subst (IsUnder p) e (record { lowest = lowest; level = omega arith; covers = λ space page h. h })
 
-module _ {R B E : Type 0} (M : Meaning R B E) where
-  with_word_row : (r i x : ℕ) (h : HeldRow R) → (with_word r i x h).row ≡ h.row
+-- a held row is of the same row after an entry word was stored, and after a link was
+module _ {R : Type 0} where
+  pub with_word_row : (r i x : ℕ) (h : HeldRow R) → (with_word r i x h).row ≡ h.row
   with_word_row r i x h = go (eqb h.row r)
     where
       go : (b : Bool) → (cond b (record h { words = set h.words i x }) h).row ≡ h.row
       go true = refl
       go false = refl
 
+  pub with_link_row : (linker : HeldRow R) (i child : ℕ) (h : HeldRow R) → (with_link linker i child h).row ≡ h.row
+  with_link_row linker i child h = go (eqb h.row child) (eqb h.row linker.row)
+    where
+      go : (a b : Bool) → (cond a (newly_linked linker i h) (cond b (record h { vacant = without i h.vacant }) h)).row ≡ h.row
+      go true b = refl
+      go false true = refl
+      go false false = refl
+
+module _ {R B E : Type 0} (M : Meaning R B E) where
   module _ (k : Layout) (first : B) (ws : List ℕ) (r i x : ℕ) (less : r < k.rows) (inside : i < 512) (near : entry_at r i < length ws) where
     abbrev us : List ℕ
     us = set ws (515 * r + i) x
@@ -258,12 +268,7 @@ module _ {R B E : Type 0} (M : Meaning R B E) where
           let b = times_kept (λ (g : GrantedRow). g.row) (λ y. not (eqb y child)) q v.core.granted (ap not (ne_eqb q child ne)) in omega arith
 
       link_row_same : (y : HeldRow R) → (with_link linker i child (with_word r i x y)).row ≡ y.row
-      link_row_same y = go (with_word r i x y) (eqb (with_word r i x y).row child) (eqb (with_word r i x y).row r) ∙ with_word_row r i x y
-        where
-          go : (z : HeldRow R) (a b : Bool) → (cond a (newly_linked linker i z) (cond b (record z { vacant = without i z.vacant }) z)).row ≡ z.row
-          go z true b = refl
-          go z false true = refl
-          go z false false = refl
+      link_row_same y = with_link_row linker i child (with_word r i x y) ∙ with_word_row r i x y
 
       -- the row that is linked, the row that links it, and the other rows
       of_child : (y : HeldRow R) → y.row ≡ child → with_link linker i child (with_word r i x y) ≡ newly_linked linker i y

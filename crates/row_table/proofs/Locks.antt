@@ -181,6 +181,7 @@ module _ {R B E : Type 0} (M : Meaning R B E) where
               (λ z. absurd (miss z)),
               λ _. (
                 record {
+                  right = right_now M k first s h v mine;
                   place = place;
                   known = place_known M k first s h v mine r;
                   small = lock_small c r found k.passes (omega arith) (λ p has. held_below c p r h.good has) (h.good.locks.rows.each r less);

@@ -1,8 +1,8 @@
 -- The sizes that a pass keeps, after steps on rows of its hand and on entries.
-use Rattle.std.proofs.Common.{◌≡◌, ℕ, ◌+◌, ◌<◌, eqb, not, cond, true, false, Bool, List, map, length, get_or, set, sym, refl, ap, ◌∙◌, subst, ⊎_elim, arith, length-set, get_or-set_same, get_or-set_other}
+use Rattle.std.proofs.Common.{◌≡◌, ℕ, ◌+◌, ◌<◌, eqb, not, cond, true, false, Bool, List, [], ◌∷◌, ◌++◌, map, length, get_or, set, sym, refl, ap, ◌∙◌, subst, ⊎_elim, arith, length-set, get_or-set_same, get_or-set_other}
 use Rattle.std.specs.List.{Contains, filter}
 use Rattle.std.proofs.lemmas.List.Elements.{Contains-push_cases}
-use Rattle.std.proofs.lemmas.List.{get_or_past}
+use Rattle.std.proofs.lemmas.List.{get_or_past, map-append}
 use Rattle.std.proofs.lemmas.Bool.{cases_lt}
 use mathlib.Core.Logic.{dite}
 use native.Mathlib.Decide.{ℕ_discrete}
@@ -19,15 +19,16 @@ use Rattle.walk_core.proofs.KeepsRows.{part_keeps_rows}
 use Rattle.walk_core.proofs.Spellings.{zero_no_link}
 use Rattle.row_table.specs.declared.view.PassView.{PassView}
 use Rattle.row_table.specs.declared.view.HeldRow.{HeldRow}
+use Rattle.row_table.specs.Rule.{row_part}
 use Rattle.row_table.specs.Known.{LinksBelow, IsSized}
 use Rattle.row_table.specs.Openings.{opened_row, opened, prepared, MayOpen}
 use Rattle.row_table.specs.Links.{with_word, newly_linked, with_link, word_set, link_set, entry_set, entry_cut}
 use Rattle.row_layout.specs.declared.places.Layout.{Layout}
 use Rattle.row_layout.specs.Places.{word_count}
-use Rattle.row_table.proofs.Turns.{contained_map}
+use Rattle.row_table.proofs.Turns.{same_parts, contained_map}
 use Rattle.row_table.proofs.Sizes.{same_sizes}
 use Rattle.row_table.proofs.Openings.{blank_zero}
-use Rattle.row_table.proofs.Links.{parts_without}
+use Rattle.row_table.proofs.Links.{parts_without, with_word_row, with_link_row}
 
 -- a row that is granted after an entry was stored was so before
 entry_grants : (x : ℕ) (gs : List GrantedRow) (r : ℕ) → Has (map (λ (g : GrantedRow). g.row) (granted_after_entry x gs)) r → Has (map (λ (g : GrantedRow). g.row) gs) r
@@ -60,6 +61,7 @@ module _ {R B E : Type 0} {n rows : ℕ} {id : TableId} {v : PassView R B E} (ol
     words = old.words;
     rows_are = old.rows_are;
     number = old.number;
+    held_rows = old.held_rows;
     stand = old.stand;
     links = old.links;
     granted = λ q has. old.granted q (subst (λ (l : List ℕ). Has l q)
@@ -72,6 +74,7 @@ module _ {R B E : Type 0} {n rows : ℕ} {id : TableId} {v : PassView R B E} (ol
     words = old.words;
     rows_are = old.rows_are;
     number = old.number;
+    held_rows = map-append row_part v.rows (opened_row r place ∷ []) ∙ ap (λ (l : List ℕ). l ++ r ∷ []) old.held_rows;
     stand = old.stand;
     links = λ h i. ⊎_elim (λ (j : Contains v.rows h). old.links h j)
         (λ (e : opened_row r place generation ≡ h). subst (λ (y : HeldRow R). LinksBelow rows y.words) e
@@ -117,6 +120,8 @@ module _ {R B E : Type 0} {n rows : ℕ} {id : TableId} {v : PassView R B E} (ol
         words = old.words;
         rows_are = old.rows_are;
         number = old.number;
+        held_rows = same_parts (λ (y : HeldRow R). with_link linker i (link_row x) (with_word linker.row i x y)) row_part row_part
+            (λ y. with_link_row linker i (link_row x) (with_word linker.row i x y) ∙ with_word_row linker.row i x y) v.rows ∙ old.held_rows;
         stand = old.stand;
         links = λ h j. let o = contained_map (λ (y : HeldRow R). with_link linker i (link_row x) (with_word linker.row i x y)) v.rows h j in
             subst (λ (y : HeldRow R). LinksBelow rows y.words) o.2 (with_link_below linker i (link_row x) (with_word linker.row i x o.0) (with_word_below linker.row i x o.0 all_below (old.links o.0 o.1)));
@@ -127,6 +132,7 @@ module _ {R B E : Type 0} {n rows : ℕ} {id : TableId} {v : PassView R B E} (ol
         words = old.words;
         rows_are = old.rows_are;
         number = old.number;
+        held_rows = same_parts (with_word linker.row i x) row_part row_part (with_word_row linker.row i x) v.rows ∙ old.held_rows;
         stand = old.stand;
         links = λ h j. let o = contained_map (with_word linker.row i x) v.rows h j in
             subst (λ (y : HeldRow R). LinksBelow rows y.words) o.2 (with_word_below linker.row i x o.0 all_below (old.links o.0 o.1));
@@ -139,6 +145,7 @@ module _ {R B E : Type 0} {n rows : ℕ} {id : TableId} {v : PassView R B E} (ol
     words = old.words;
     rows_are = old.rows_are;
     number = old.number;
+    held_rows = same_parts (with_word linker.row i 0) row_part row_part (with_word_row linker.row i 0) v.rows ∙ old.held_rows;
     stand = old.stand;
     links = λ h j. let o = contained_map (with_word linker.row i 0) v.rows h j in
         subst (λ (y : HeldRow R). LinksBelow rows y.words) o.2

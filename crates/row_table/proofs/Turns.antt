@@ -196,7 +196,7 @@ module _ {R B E : Type 0} (M : Meaning R B E) where
               seen = now.seen;
               mine = now.mine;
             }),
-        λ rows same. ((λ z. absurd (miss z)), λ _. let by = book_holder k first s h v mine free miss in (by.0, by.1, book_small (core_of M k s.words h.passes h.free h.book) h.good, by.2, refl)),
+        λ rows same. ((λ z. absurd (miss z)), λ _. let by = book_holder k first s h v mine free miss in (right_now M k first s h v mine, by.0, by.1, book_small (core_of M k s.words h.passes h.free h.book) h.good, by.2, refl)),
       ))
 
   -- A give

@@ -1,10 +1,10 @@
 -- What a caller of a pass knows after a grab, from the public clauses alone.
-use Rattle.std.proofs.Common.{◌≡◌, ◌≢◌, ℕ, None, List, [], ◌∷◌, ◌++◌, sym, refl, ap, ◌∙◌, subst, inl, ⊎_elim, arith}
+use Rattle.std.proofs.Common.{◌≡◌, ◌≢◌, ℕ, None, Bool, cond, not, List, [], ◌∷◌, ◌++◌, sym, refl, ap, ◌∙◌, subst, inl, ⊎_elim, arith, eq-eqb}
 use Rattle.std.specs.List.{Contains}
 use Rattle.std.proofs.lemmas.List.Elements.{Contains-append_right}
 use Rattle.table_place.specs.declared.Place.{Place}
 use Rattle.table_place.specs.Place.{entry_place}
-use Rattle.walk_core.specs.Lists.{times, Has}
+use Rattle.walk_core.specs.Lists.{times, Has, without}
 use Rattle.walk_core.proofs.RowLists.{times-nil, times_one_same}
 use Rattle.row_table.specs.declared.view.PassView.{PassView}
 use Rattle.row_table.specs.Plan.{Meaning}
@@ -19,6 +19,9 @@ last_found : (l : List Finding) (f : Finding) → Contains (l ++ f ∷ []) f
 last_found l f = Contains-append_right l (f ∷ []) f (0, omega arith, refl)
 
 module _ {R B E : Type 0} where
+  last_row : (v : PassView R B E) (row : ℕ) (place : Place) (generation : ℕ) (words : List ℕ) (x : R) → Contains (v.rows ++ grabbed row place generation words x ∷ []) (grabbed row place generation words x)
+  last_row v row place generation words x = Contains-append_right v.rows (grabbed row place generation words x ∷ []) (grabbed row place generation words x) (0, omega arith, refl)
+
   -- a pass that got the row
   pub record HasGot (v : PassView R B E) (row : ℕ) (x : R) : Type 0 where
     pub place : Place
@@ -33,7 +36,17 @@ module _ {R B E : Type 0} where
     place = place;
     generation = generation;
     words = words;
-    row_there = Contains-append_right v.rows (grabbed row place generation words x ∷ []) (grabbed row place generation words x) (0, omega arith, refl);
+    row_there = last_row v row place generation words x;
+    held = ap (λ (l : List ℕ). l ++ row ∷ []) s.held;
+  })
+
+  -- and stayed
+  pub got_it : (v u : PassView R B E) (row : ℕ) (place : Place) (generation : ℕ) (words : List ℕ) (x : R) → IsStanding v row → u ≡ got v row place generation words x → HasGot u row x
+  got_it v u row place generation words x s e = subst (λ (y : PassView R B E). HasGot y row x) (sym e) (record {
+    place = place;
+    generation = generation;
+    words = words;
+    row_there = last_row v row place generation words x;
     held = ap (λ (l : List ℕ). l ++ row ∷ []) s.held;
   })
 
@@ -59,7 +72,26 @@ module _ {R B E : Type 0} where
   pub got_child : (v w : PassView R B E) (row : ℕ) (f : Finds row v) (x : R) → w ≡ got v row f.place f.generation f.words x → (l : LinksRow v row) → HoldsAt w row (entry_place (levels_of v.layout) l.linker.place l.index)
   got_child v w row f x e l = subst (λ (z : PassView R B E). HoldsAt z row (entry_place (levels_of v.layout) l.linker.place l.index)) (sym e) (record {
     known = grabbed row f.place f.generation f.words x;
-    held = Contains-append_right v.rows (grabbed row f.place f.generation f.words x ∷ []) (grabbed row f.place f.generation f.words x) (0, omega arith, refl);
+    held = last_row v row f.place f.generation f.words x;
     same_row = refl;
     same_place = f.known.of_entry l;
   })
+
+  -- a pass that stands on a row stands on it after it had it for a moment, and after it missed it
+  pub stands_again : (v u w : PassView R B E) (row : ℕ) (place : Place) (generation : ℕ) (words : List ℕ) (x : R) → IsStanding v row → u ≡ got v row place generation words x → w ≡ released u row → IsStanding w row
+  stands_again v u w row place generation words x s e f = subst (λ (y : PassView R B E). IsStanding y row) (sym (f ∙ ap (λ (y : PassView R B E). released y row) e)) (record {
+    stand = s.stand;
+    on = s.on;
+    same_row = s.same_row;
+    held = ap (λ (l : List ℕ). without row (l ++ row ∷ [])) s.held ∙ ap (λ (b : Bool). cond (not b) (row ∷ []) []) (eq-eqb row row refl);
+    granted = s.granted;
+    unlinked = s.unlinked;
+    has_not = s.has_not;
+  })
+
+  pub stands_still : (v w : PassView R B E) (row n : ℕ) (place : Place) → IsStanding v row → w ≡ looked v row place None n → IsStanding w row
+  stands_still v w row n place s e = subst (λ (y : PassView R B E). IsStanding y row) (sym e)
+      (record { stand = s.stand; on = s.on; same_row = s.same_row; held = s.held; granted = s.granted; unlinked = s.unlinked; has_not = s.has_not })
+
+  pub found_here : (v u w : PassView R B E) (row : ℕ) (place : Place) (generation : ℕ) (words : List ℕ) (x : R) → u ≡ got v row place generation words x → w ≡ released u row → HasFound w row 0
+  found_here v u w row place generation words x e f = subst (λ (z : PassView R B E). HasFound z row 0) (sym (f ∙ ap (λ (z : PassView R B E). released z row) e)) (place, last_found v.findings (finding row place None 0))

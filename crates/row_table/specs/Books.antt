@@ -122,7 +122,7 @@ module _ {R B E : Type 0} where
     -- of a turn that found n, where the book's slot is behind so many rows
     abbrev pub TurnSays : Seat R B E → ℕ → Seat R B E → ℕ → Type 0
     TurnSays m n m' rows = (n ≡ 0 → (book : B) × Learns rows (view m) book × (m' ≡ (turned (view m) book ∷ [], (rows, Some (Book book)) ∷ m.1)))
-        × (n ≢ 0 → (s : ℕ) × (n ≡ held_by s) × (n ≤ 255) × IsAnother (view m) s × (m' ≡ (waited (view m) n ∷ [], m.1)))
+        × (n ≢ 0 → IsRight (view m) × (s : ℕ) × (n ≡ held_by s) × (n ≤ 255) × IsAnother (view m) s × (m' ≡ (waited (view m) n ∷ [], m.1)))
 
     abbrev pub TurnTells : Step (Slot R B) → Seat R B E → ℕ → Seat R B E → Type 0
     TurnTells st m n m' = (rows : ℕ) → st.slots ≡ rows + 1 → TurnSays m n m' rows
@@ -144,7 +144,7 @@ module _ {R B E : Type 0} where
 
     abbrev pub Turns : ℕ → PassView R B E → Turned B → PassView R B E → Type 0
     Turns rows v (Got book) w = Learns rows v book × (w ≡ turned v book)
-    Turns rows v (Held holder) w = IsAnother v holder × (w ≡ waited v (held_by holder))
+    Turns rows v (Held holder) w = IsRight v × IsAnother v holder × (w ≡ waited v (held_by holder))
 
     pub record Gives (v : PassView R B E) (new : B) (w : PassView R B E) : Type 0 where
       pub old : B

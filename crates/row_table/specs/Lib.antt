@@ -16,5 +16,6 @@ pub mod Close
 pub mod Uses
 pub mod Start
 pub mod Passes
+pub mod Standing
 pub mod Tally
 pub mod Stock

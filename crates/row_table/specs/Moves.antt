@@ -62,6 +62,7 @@ module _ {R B E : Type 0} where
 
   -- what a grab that found n and did not take the row tells of it
   pub record Misses (row : ℕ) (v : PassView R B E) (n : ℕ) : Type 0 where
+    pub right : IsRight v
     pub place : Place
     pub known : IsKnownPlace v row place
     pub small : n ≤ stale

@@ -5,6 +5,7 @@ mod answers;
 mod boot;
 mod close;
 mod crossing;
+mod laws;
 mod linking;
 #[cfg(test)]
 mod linking_tests;
@@ -23,6 +24,7 @@ mod view;
 
 pub use answers::{Grabbed, Turned, Worn};
 pub use close::{IronClose, Parts};
+pub use laws::a_pass_stands_on_the_row_that_it_came_to;
 pub use pass::Pass;
 pub use plan::Plan;
 pub use row_layout::Layout;

@@ -1,14 +1,17 @@
 //! Callers that rely on the public clauses alone.
-ghost use Rattle.std.specs.Prelude.{◌≡◌, ◌≢◌, ℕ, ◌+◌, ◌<◌, true, false, Some, MatchOption, OnSome};
+ghost use Rattle.std.specs.Prelude.{◌≡◌, ◌≢◌, ℕ, ◌+◌, ◌<◌, map, true, false, Some, MatchOption, OnSome, IfSome};
+ghost use Rattle.std.specs.List.{All};
 ghost use Rattle.walk_core.specs.Words.{is_link, link_row, held_by};
-ghost use Rattle.row_table.specs.Passes.{view_of, number_of, table_of, IsPassOf};
-ghost use Rattle.row_table.specs.Close.{IsIdle};
+ghost use Rattle.row_table.specs.Passes.{view_of, number_of, table_of, layout_of, IsPassOf};
+ghost use Rattle.row_table.specs.Close.{IsIdle, HasAll};
+ghost use Rattle.row_table.specs.Tally.{tally};
 ghost use Rattle.row_table.specs.Known.{LinksRow};
 ghost use Rattle.row_table.specs.Rule.{levels_of};
 ghost use Rattle.table_place.specs.Place.{entry_place};
-ghost use Rattle.row_table.specs.Uses.{IsStanding, Touched, LookedIn, HoldsAt};
+ghost use Rattle.row_table.specs.Uses.{IsStanding, Touched, LookedIn, HoldsAt, HasFound, Remembers};
 
 use crate::answers::{Grabbed, Turned};
+use crate::close::IronClose;
 use crate::pass::Pass;
 use crate::plan::Plan;
 use crate::table::Iron;
@@ -131,6 +134,24 @@ pub(crate) fn take_child<P: Plan>(iron: &Iron<P>, pass: &mut Pass<P>, row: u32) 
     }
 }
 
+/// What a row holds on which the pass stands, as long as no other pass holds the row. It is given back as it was.
+pub(crate) fn peek(iron: &Iron<Tally>, pass: &mut Pass<Tally>, row: u32) -> Option<u8>
+    requires table { IsPassOf iron.now pass.old }
+    requires stands { IsStanding (view_of pass.old) row }
+    ensures table { table_of pass.new ≡ table_of pass.old }
+    ensures stands { IsStanding (view_of pass.new) row }
+    ensures found { OnSome result (HasFound (view_of pass.new) row 0) }
+{
+    match pass.grab(iron, row) {
+        Grabbed::Got(found) => {
+            pass.release(iron, row, found);
+            Some(found)
+        }
+        Grabbed::Held(_) => None,
+        Grabbed::Stale => None,
+    }
+}
+
 /// Takes the book if no pass has it, adds an entry of the pass's own, and gives it back.
 pub(crate) fn add_entry(iron: &Iron<Tally>, pass: &mut Pass<Tally>, count: u32) -> bool
     requires table { IsPassOf iron.now pass.old }
@@ -147,5 +168,19 @@ pub(crate) fn add_entry(iron: &Iron<Tally>, pass: &mut Pass<Tally>, count: u32) 
             true
         }
         Turned::Held(_) => false,
+    }
+}
+
+/// The journal of a table when all its passes are given back: it has all that each of them has seen, and each one's own entries
+/// at the places that it knows. Nothing if a pass is missing.
+pub(crate) fn journal_at_end(iron: Iron<Tally>, passes: Vec<Pass<Tally>>) -> Option<Vec<(u8, u32)>>
+    requires tables { All (λ p. IsPassOf iron p) passes.items }
+    requires idle { All (λ p. IsIdle (view_of p)) passes.items }
+    ensures all { MatchOption result (¬ HasAll (layout_of iron).passes (map (λ p. number_of p) passes.items)) (λ _. HasAll (layout_of iron).passes (map (λ p. number_of p) passes.items)) }
+    ensures journal { IfSome result (λ journal. All (λ p. Remembers tally journal.items (view_of p)) passes.items) }
+{
+    match iron.close(passes) {
+        IronClose::Closed(parts) => Some(parts.book),
+        IronClose::NotAll(_, _) => None,
     }
 }

@@ -11,13 +11,13 @@ release-requires-clause-fits g c κs within = let t = c.in-Got.ensures.grabs in
     fits_it g.P.Plan.meaning (has_got _ _ _ c.args.row t.0.place t.0.generation t.0.words c.in-Got.content c.requires.stands t.2 c.leave.ensures.leaves)
 
 pub returns-in-Held-clause-other : goal.returns-in-Held-clause-other
-returns-in-Held-clause-other g c = λ s e z. let same : c.in-Held.holder ≡ s = cc in another c.requires.stands c.in-Held.ensures.grabs.2 (same ∙ z)
+returns-in-Held-clause-other g c = λ s e z. let same : c.in-Held.holder ≡ s = cc in another c.requires.stands c.in-Held.ensures.grabs.3 (same ∙ z)
 
 pub returns-in-Got-clause-touched : goal.returns-in-Got-clause-touched
 returns-in-Got-clause-touched g c = let t = c.in-Got.ensures.grabs in (refl, found_got _ _ _ _ c.args.row t.0.place t.0.generation t.0.words c.in-Got.content t.2 c.leave.ensures.leaves c.release.ensures.releases)
 
 pub returns-in-Held-clause-touched : goal.returns-in-Held-clause-touched
-returns-in-Held-clause-touched g c = let t = c.in-Held.ensures.grabs in found_missed _ _ _ c.args.row _ t.0 t.3 c.leave.ensures.leaves
+returns-in-Held-clause-touched g c = let t = c.in-Held.ensures.grabs in found_missed _ _ _ c.args.row _ t.1 t.4 c.leave.ensures.leaves
 
 pub returns-in-Stale-clause-touched : goal.returns-in-Stale-clause-touched
-returns-in-Stale-clause-touched g c = let t = c.in-Stale.ensures.grabs in found_missed _ _ _ c.args.row _ t.0 t.3 c.leave.ensures.leaves
+returns-in-Stale-clause-touched g c = let t = c.in-Stale.ensures.grabs in found_missed _ _ _ c.args.row _ t.1 t.4 c.leave.ensures.leaves
