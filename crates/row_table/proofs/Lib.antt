@@ -26,3 +26,5 @@ pub mod Grafts
 pub mod Visits
 pub mod Standing
 pub mod Closings
+pub mod SownPlaces
+pub mod SownSteps

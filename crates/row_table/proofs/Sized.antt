@@ -74,7 +74,7 @@ module _ {R B E : Type 0} {n rows : ℕ} {id : TableId} {v : PassView R B E} (ol
     words = old.words;
     rows_are = old.rows_are;
     number = old.number;
-    held_rows = map-append row_part v.rows (opened_row r place ∷ []) ∙ ap (λ (l : List ℕ). l ++ r ∷ []) old.held_rows;
+    held_rows = map-append row_part v.rows (opened_row r place generation ∷ []) ∙ ap (λ (l : List ℕ). l ++ r ∷ []) old.held_rows;
     stand = old.stand;
     links = λ h i. ⊎_elim (λ (j : Contains v.rows h). old.links h j)
         (λ (e : opened_row r place generation ≡ h). subst (λ (y : HeldRow R). LinksBelow rows y.words) e

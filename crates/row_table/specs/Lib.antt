@@ -19,3 +19,4 @@ pub mod Passes
 pub mod Standing
 pub mod Tally
 pub mod Stock
+pub mod Sown

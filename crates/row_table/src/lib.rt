@@ -15,6 +15,7 @@ mod opening;
 mod pass;
 mod plan;
 mod rooms;
+mod sowing;
 mod stack;
 mod table;
 #[cfg(test)]
