@@ -15,6 +15,7 @@ mod pass;
 mod plan;
 mod rooms;
 mod stack;
+mod start_laws;
 mod table;
 #[cfg(test)]
 mod tests;
@@ -26,5 +27,6 @@ pub use close::{IronClose, Parts};
 pub use pass::Pass;
 pub use plan::Plan;
 pub use row_layout::Layout;
+pub use start_laws::a_table_starts_with_an_empty_space;
 pub use table::Iron;
 pub use view::{Finding, HandRow, HeldRow, PassView};
