@@ -20,8 +20,8 @@ use Rattle.walk_core.specs.Core.{Core, word, place_in, pass_at, idle, times_in_h
 use Rattle.walk_core.specs.Good.{Good, LockSays, says_free, says_held, says_stale}
 use Rattle.walk_core.proofs.RowLists.{times-nil, times-cons_other}
 use Rattle.walk_core.proofs.Tree.{names_linked}
-use Rattle.walk_core.proofs.Facts.{root_linked, out-le-one}
-use Rattle.walk_core.proofs.Keeps.{found_is}
+use Rattle.walk_core.proofs.Facts.{root_linked, out-le-one, free_linked}
+use Rattle.walk_core.proofs.Keeps.{found_is, found_there}
 use Rattle.row_layout.specs.declared.places.Layout.{Layout}
 use Rattle.row_table.specs.declared.view.PassView.{PassView}
 use Rattle.row_table.specs.declared.plan.Content.TheVariants.{Row, Book}
@@ -220,6 +220,10 @@ module _ {R B E : Type 0} where
         even = λ t less. let o = core_still t less in h.good.stands.parity t less ∙ ap Rattle.walk_core.specs.Good.inside (ap (λ (u : PassCore). u.stand) o.2 ∙ o.1.outside);
         agree = λ r x reached there. let l = reached_linked reached.0 r reached.1 in let t = h.contents.linked r l.there (linked_free r l) in
             let both = sym (at r (Some (Row t.0)) t.1) ∙ there in let same : t.0 ≡ x = cc in subst (M.agrees h.book (place_at s.words r) (row_words s.words r)) same t.2;
+        blank = λ r x less unreached there. ⊎_elim
+            (λ (z : lock_of s.words r ≡ 0). absurd (unreached (reached_up 6 r (omega arith) (free_linked h.good.locks.rows r less z))))
+            (λ (z : lock_of s.words r ≡ stale). let t = h.contents.others r less z in let both = sym (at r (Some (Row t.0)) t.1) ∙ there in let same : t.0 ≡ x = cc in subst M.is_blank same t.2)
+            (locks r less);
         knows = λ v i. let know = h.knows v.number v (view_there v i) in (know.there, record { same_epoch = know.epoch; fixed = λ b e. let opt = sym know.origin ∙ e in let same : first ≡ b = cc in subst (λ (y : B). M.same_fixed y h.book) same h.fixed; seen = know.seen; mine = know.mine });
       }
 
@@ -294,5 +298,6 @@ closed_is {R} {B} M k views ws xs words epochs rows book first end same at_first
       even = λ t less. ap (λ (n : ℕ). n % 2) (epoch t less ∙ from t) ∙ end.even t less;
       agree = λ r x reached at. subst (λ (l : List ℕ). M.agrees book (place_at l r) (row_words l r) x) (sym same)
           (subst (λ (b : B). M.agrees b (place_at ws r) (row_words ws r) x) book_is (end.agree r x (subst (λ (l : List ℕ). IsReached l r) same reached) (rows_from r x at)));
+      blank = λ r x unreached at. end.blank r x (let less = found_there rows r x at in omega arith) (λ reached. unreached (subst (λ (l : List ℕ). IsReached l r) (sym same) reached)) (rows_from r x at);
       knows = λ v i. let o = end.knows v i in let e = (epoch v.number o.0 ∙ from v.number) in (o.0, subst (λ (b : B). KnownAtEnd M (get_or epochs v.number 0) b v) book_is (record { same_epoch = e ∙ o.1.same_epoch; fixed = o.1.fixed; seen = o.1.seen; mine = o.1.mine }));
     }

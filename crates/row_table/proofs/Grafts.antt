@@ -1,6 +1,6 @@
 -- What a pass of the tests' plan with rows to grant has after each of its calls.
 use Rattle.std.proofs.Common.{◌≡◌, ◌≢◌, ℕ, ◌+◌, ◌*◌, ◌^◌, ◌<◌, ◌≤◌, eqb, cond, not, Bool, true, false, List, [], ◌∷◌, ◌++◌, map, length, get_or, set, inr, sym, refl, ap, ◌∙◌, subst, ⊎_elim, arith, eq-eqb, ne_eqb, get_or-set_same, length-set, Some, None}
-use Rattle.std.specs.List.{Contains, filter, find}
+use Rattle.std.specs.List.{Contains, filter}
 use Rattle.std.proofs.lemmas.List.Elements.{Contains-append_left, Contains-append_right}
 use Rattle.table_place.specs.declared.Place.{Place}
 use Rattle.table_place.specs.Place.{directory, entry_place, is_place}
@@ -24,7 +24,7 @@ use Rattle.row_table.specs.Moves.{grabbed, got, released, Finds, Fits, NotInHand
 use Rattle.row_table.specs.Crossings.{entered, left}
 use Rattle.row_table.specs.Looks.{looked_at, Reads}
 use Rattle.row_table.specs.Books.{given, hand_rows, taken_rows, put_list, turned, Learns, Gives}
-use Rattle.row_table.specs.Openings.{with_place, with_number, opened_row, prepared, opened, MaySetUp, MayOpen, IsSetUp}
+use Rattle.row_table.specs.Openings.{with_place, with_number, opened_row, prepared, opened, MaySetUp, IsSetUp}
 use Rattle.row_table.specs.Links.{with_word, newly_linked, with_link, link_set, word_set, entry_cut, MaySetEntry, Sets, MayUnlink, Unlinks}
 use Rattle.row_table.specs.Close.{IsIdle}
 use Rattle.row_table.specs.Stock.{Stock, stock, View, HasRoot, HasGrant}
@@ -107,8 +107,8 @@ same_book : (v0 v1 : View) (book a : Stock) → v1 ≡ turned stock v0 book → 
 same_book v0 v1 book a e found = let is : Some a ≡ Some book = sym found ∙ ap (λ (v : View). v.found) e in cc
 
 pub granted_one : (k : Layout) (rows : ℕ) (v0 v1 v2 : View) (book new : Stock) (row : ℕ) (b : Bool) → HasRoot v0 0 (1 ∷ []) [] [] b → Learns stock rows v0 book → v1 ≡ turned stock v0 book → (g : Gives stock v1 new v2)
-    → new.2 ≡ book.2 + 1 → book.0.items ≡ new.0.items ++ row ∷ [] → new.1.items ≡ book.1.items → row ≢ 1 → row < 1024 → book.2 < 2 ^ 30 → HasGrant v2 row book.2
-granted_one k rows v0 v1 v2 book new row b root learns e1 g next front limbo other small few =
+    → new.2 ≡ book.2 + 1 → book.0.items ≡ new.0.items ++ row ∷ [] → new.1.items ≡ book.1.items → row < 1024 → book.2 < 2 ^ 30 → HasGrant v2 row book.2
+granted_one k rows v0 v1 v2 book new row b root learns e1 g next front limbo small few =
     let old_is : g.old ≡ book = same_book v0 v1 book g.old e1 g.found in
     let taken : taken_rows stock g.old new ≡ row ∷ [] = ap (λ (a : Stock). taken_rows stock a new) old_is
     ∙ taken_is k v1 book new row (ap (λ (v : View). v.core.has_book) e1) (omega arith) front limbo (λ q. let o = learns.once q in omega arith) in
@@ -127,7 +127,9 @@ granted_one k rows v0 v1 v2 book new row b root learns e1 g next front limbo oth
       above = (let has : Has (taken_rows stock g.old new) row = subst (λ (l : List ℕ). Has l row) (sym taken) (let one = times_one_same row row refl in omega arith) in let lower = g.grants.low row has in omega arith);
       low = omega arith;
       high = omega arith;
-      other = other;
+      -- it holds row 1, which is not free then
+      other = λ z. (let held = ap (times 1) root.held in let self = times_one_same 1 1 refl in let apart = learns.apart 1 (omega arith) in
+          let free = ap (times 1) front in let all = times-append 1 new.0.items (row ∷ []) in let one = times_one_same 1 row z in omega arith);
       small = small;
       few = few;
     }
@@ -167,7 +169,6 @@ may_prepare v row g may = record {
   known = may.known;
   in_hand = may.in_hand;
   same_row = may.same_row;
-  granted = (let one = times_one_same row row refl in let all = ap (λ (gs : List GrantedRow). times row (map (λ (x : GrantedRow). x.row) gs)) may.root.granted in omega arith);
   closed = ap (times row) may.root.held ∙ row_has row may.other;
   is_place = child_is_place v.layout;
   above = may.above;
@@ -207,13 +208,6 @@ set_up_one v v1 row g may e1 =
       place = refl;
       generation = refl;
       granted = ap (λ (u : View). u.core.granted) e1 ∙ (ap (λ (gs : List GrantedRow). granted_after_part row (Generation g) (granted_after_part row (Position child_place) gs)) may.root.granted ∙ prepared_one row g child_place);
-    }
-
-pub may_open_one : (v v1 : View) (row g : ℕ) → HasGrant v row g → v1 ≡ prepared v row child_place g → MayOpen v1 row
-may_open_one v v1 row g may e1 =
-    let is = set_up_one v v1 row g may e1 in let done : GrantedRow = record { row = row; has_position = true; has_generation = true } in record {
-      both_set = ap (find (λ (x : GrantedRow). eqb x.row row)) is.granted ∙ ap (λ (b : Bool). cond b (Some done) None) (eq-eqb row row refl);
-      closed = ap (λ (u : View). times row u.core.held) e1 ∙ (ap (times row) may.root.held ∙ row_has row may.other);
     }
 
 record IsOpened (v v2 : View) (row g : ℕ) : Type 0 where

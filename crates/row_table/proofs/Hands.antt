@@ -1,5 +1,5 @@
 -- The rows of a hand are those that the core counts as granted, and their positions are set up alike.
-use Rattle.std.proofs.Common.{◌≡◌, ℕ, eqb, not, cond, Bool, true, false, List, [], ◌∷◌, map, sym, refl, ap, ◌∙◌, eq-eqb, ne_eqb, Option, Some, None}
+use Rattle.std.proofs.Common.{◌≡◌, ℕ, eqb, not, cond, Bool, true, false, List, [], ◌∷◌, map, sym, refl, ap, ◌∙◌, arith, eq-eqb, ne_eqb, Option, Some, None}
 use Rattle.std.specs.Prelude.{is_some}
 use Rattle.std.specs.List.{Contains, filter, find}
 use mathlib.Core.Logic.{dite}
@@ -7,8 +7,10 @@ use native.Mathlib.Decide.{ℕ_discrete}
 use Rattle.table_place.specs.declared.Place.{Place}
 use Rattle.walk_core.specs.declared.event.SetPart.TheVariants.{Position, Generation}
 use Rattle.walk_core.specs.declared.pass.GrantedRow.{GrantedRow}
+use Rattle.walk_core.specs.Lists.{Has}
 use Rattle.walk_core.specs.Core.{set_up}
 use Rattle.walk_core.specs.Events.{with_part, granted_after_part}
+use Rattle.walk_core.proofs.RowLists.{times-nil, times-cons_other}
 use Rattle.row_table.specs.declared.view.HandRow.{HandRow}
 use Rattle.row_table.specs.Rule.{hand_part, hand_state, granted_state}
 use Rattle.row_table.specs.Openings.{with_place, with_number}
@@ -33,6 +35,20 @@ map_kept {X} {Y} f t (x ∷ xs) = go (t (f x)) (map_kept f t xs)
 pub rows_granted : (hand : List HandRow) (gs : List GrantedRow) → map hand_state hand ≡ map granted_state gs → map hand_part hand ≡ map (λ (g : GrantedRow). g.row) gs
 rows_granted hand gs e = sym (same_maps hand_state (λ (p : ℕ × Bool). p.0) hand_part (λ x. refl) hand)
     ∙ (ap (map (λ (p : ℕ × Bool). p.0)) e ∙ same_maps granted_state (λ (p : ℕ × Bool). p.0) (λ (g : GrantedRow). g.row) (λ g. refl) gs)
+
+pub rows_placed : (r : ℕ) (q : Place) (hand : List HandRow) → map hand_part (map (with_place r q) hand) ≡ map hand_part hand
+rows_placed r q = same_maps (with_place r q) hand_part hand_part (λ x. same x (eqb x.row r))
+  where
+    same : (x : HandRow) (b : Bool) → (cond b (record x { place = Some q }) x).row ≡ x.row
+    same x true = refl
+    same x false = refl
+
+pub rows_numbered : (r n : ℕ) (hand : List HandRow) → map hand_part (map (with_number r n) hand) ≡ map hand_part hand
+rows_numbered r n = same_maps (with_number r n) hand_part hand_part (λ x. same x (eqb x.row r))
+  where
+    same : (x : HandRow) (b : Bool) → (cond b (record x { generation = n }) x).row ≡ x.row
+    same x true = refl
+    same x false = refl
 
 -- What changes both
 
@@ -69,6 +85,24 @@ pub states_kept : (child : ℕ) (hand : List HandRow) (gs : List GrantedRow) →
     → map hand_state (filter (λ (x : HandRow). not (eqb x.row child)) hand) ≡ map granted_state (filter (λ (g : GrantedRow). not (eqb g.row child)) gs)
 states_kept child hand gs e = map_kept hand_state (λ (p : ℕ × Bool). not (eqb p.0 child)) hand
     ∙ (ap (filter (λ (p : ℕ × Bool). not (eqb p.0 child))) e ∙ sym (map_kept granted_state (λ (p : ℕ × Bool). not (eqb p.0 child)) gs))
+
+-- A granted row is set up after both of its words were written
+
+pub found_set_up : (r n : ℕ) (q : Place) (gs : List GrantedRow) → Has (map (λ (g : GrantedRow). g.row) gs) r → find (λ (g : GrantedRow). eqb g.row r) (granted_after_part r (Generation n) (granted_after_part r (Position q) gs)) ≡ set_up r
+found_set_up r n q [] has = let z = times-nil r in absurd (omega arith)
+found_set_up r n q (g ∷ gs) has =
+    let rest : List GrantedRow = granted_after_part r (Generation n) (granted_after_part r (Position q) gs) in
+    let all : GrantedRow → Option GrantedRow = λ y. cond (eqb y.row r) (Some y) (find (λ (x : GrantedRow). eqb x.row r) rest) in
+    let one : GrantedRow = record g { has_position = true } in let both : GrantedRow = record one { has_generation = true } in
+    dite (ℕ_discrete g.row r)
+    (λ z. let here : eqb g.row r ≡ true = eq-eqb g.row r z in
+    ap (λ (b : Bool). all (cond (eqb (cond b one g).row r) (record (cond b one g) { has_generation = true }) (cond b one g))) here
+    ∙ (ap (λ (b : Bool). all (cond b both one)) here ∙ (ap (λ (b : Bool). cond b (Some both) (find (λ (x : GrantedRow). eqb x.row r) rest)) here
+    ∙ ap (λ (y : ℕ). Some (record { row = y; has_position = true; has_generation = true })) z)))
+    (λ ne. let other : eqb g.row r ≡ false = ne_eqb g.row r ne in
+    ap (λ (b : Bool). all (cond (eqb (cond b one g).row r) (record (cond b one g) { has_generation = true }) (cond b one g))) other
+    ∙ (ap (λ (b : Bool). all (cond b (record g { has_generation = true }) g)) other ∙ (ap (λ (b : Bool). cond b (Some g) (find (λ (x : GrantedRow). eqb x.row r) rest)) other
+    ∙ found_set_up r n q gs (let t = times-cons_other r g.row (map (λ (x : GrantedRow). x.row) gs) ne in omega arith))))
 
 -- A row that was set up is in the hand, with a position
 

@@ -19,6 +19,7 @@ pub mod Crossings
 pub mod Looks
 pub mod Marks
 pub mod Openings
+pub mod StartWords
 pub mod Links
 pub mod Sized
 pub mod Stock

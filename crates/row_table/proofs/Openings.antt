@@ -34,9 +34,9 @@ use Rattle.row_table.specs.Plan.{Meaning}
 use Rattle.row_table.specs.Vacant.{blank_words, KeepsVacant}
 use Rattle.row_table.specs.Rows.{row_words, place_at, lock_of, generation_of}
 use Rattle.row_table.specs.Rule.{Seat, Table, levels_of, view, IsOne, row_part, hand_part, hand_state, granted_state, core_of, IsHeldRow, IsHandRow, Knows, Holds}
-use Rattle.row_table.specs.Openings.{with_place, with_number, opened_row, placed, numbered, opened, MaySetUp, PlaceTells, NumberTells, MayOpen, IsSetUp, OpenSays, OpenTells}
+use Rattle.row_table.specs.Openings.{with_place, with_number, opened_row, placed, numbered, prepared, opened, MaySetUp, PlaceTells, NumberTells, MayOpen, IsSetUp, OpenSays, OpenTells}
 use Rattle.row_table.proofs.Shown.{same_on, lock_shows}
-use Rattle.row_table.proofs.Hands.{rows_granted, states_placed, states_numbered, set_in_hand}
+use Rattle.row_table.proofs.Hands.{rows_granted, states_placed, states_numbered, found_set_up, set_in_hand}
 use Rattle.row_table.proofs.Frames.{moved_here, knows_shown, contents_locked}
 use Rattle.row_table.proofs.Views.{head_or_later, in_head, in_tail, pass_is}
 use Rattle.row_table.proofs.Turns.{contained_map}
@@ -333,6 +333,13 @@ module _ {R B E : Type 0} (M : Meaning R B E) where
       (opens k first slots id m n r one may))
 
   -- What the calls need
+
+  -- a row that was set up may be opened
+  pub may_open : (v : PassView R B E) (r n : ℕ) (q : Place) (known : HandRow) → map hand_part v.hand ≡ granted_rows v.core → Contains v.hand known → known.row ≡ r → times r v.core.held ≡ 0 → MayOpen (prepared v r q n) r
+  may_open v r n q known rows in_hand same_row closed = record {
+    both_set = found_set_up r n q v.core.granted (subst (Has (granted_rows v.core)) same_row (subst (λ (l : List ℕ). Has l known.row) rows (has_part hand_part v.hand known in_hand)));
+    closed = closed;
+  }
 
   with_place_same : (r : ℕ) (q : Place) (x : HandRow) → ((with_place r q x).generation ≡ x.generation) × ((with_place r q x).high ≡ x.high)
   with_place_same r q x = go (eqb x.row r)

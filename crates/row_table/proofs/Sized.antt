@@ -19,12 +19,15 @@ use Rattle.walk_core.proofs.KeepsRows.{part_keeps_rows}
 use Rattle.walk_core.proofs.Spellings.{zero_no_link}
 use Rattle.row_table.specs.declared.view.PassView.{PassView}
 use Rattle.row_table.specs.declared.view.HeldRow.{HeldRow}
-use Rattle.row_table.specs.Rule.{row_part}
+use Rattle.row_table.specs.declared.view.HandRow.{HandRow}
+use Rattle.row_table.specs.Rule.{row_part, hand_part}
 use Rattle.row_table.specs.Known.{LinksBelow, IsSized}
-use Rattle.row_table.specs.Openings.{opened_row, opened, prepared, MayOpen}
+use Rattle.row_table.specs.Openings.{with_place, opened_row, opened, prepared, MayOpen}
 use Rattle.row_table.specs.Links.{with_word, newly_linked, with_link, word_set, link_set, entry_set, entry_cut}
 use Rattle.row_layout.specs.declared.places.Layout.{Layout}
 use Rattle.row_layout.specs.Places.{word_count}
+use Rattle.row_table.proofs.Hands.{rows_placed, rows_numbered}
+use Rattle.row_table.proofs.Beside.{has_part}
 use Rattle.row_table.proofs.Turns.{same_parts, contained_map}
 use Rattle.row_table.proofs.Sizes.{same_sizes}
 use Rattle.row_table.proofs.Openings.{blank_zero}
@@ -50,7 +53,11 @@ entry_same {R} {B} {E} v linker i x = go (is_link x)
 
 module _ {R B E : Type 0} {n rows : ℕ} {id : TableId} {v : PassView R B E} (old : IsSized n rows id v) where
   pub granted_there : (other : TableId) (k : Layout) → id ≡ other → other.words ≡ word_count k → other.slots ≡ k.rows + 1 → (r : ℕ) → Has (granted_rows v.core) r → r < k.rows
-  granted_there other k same words slots r has = let less = old.granted r has in let all = (same_sizes old other k same words slots).0 in omega arith
+  granted_there other k same words slots r has = let less = old.granted.1 r has in let all = (same_sizes old other k same words slots).0 in omega arith
+
+  pub hand_there : (other : TableId) (k : Layout) → id ≡ other → other.words ≡ word_count k → other.slots ≡ k.rows + 1 → (r : ℕ) (known : HandRow) → Contains v.hand known → known.row ≡ r → r < k.rows
+  hand_there other k same words slots r known in_hand same_row = granted_there other k same words slots r
+      (subst (Has (granted_rows v.core)) same_row (subst (λ (l : List ℕ). Has l known.row) old.granted.0 (has_part hand_part v.hand known in_hand)))
 
   pub open_there : (other : TableId) (k : Layout) → id ≡ other → other.words ≡ word_count k → other.slots ≡ k.rows + 1 → (r : ℕ) → MayOpen v r → r < k.rows
   open_there other k same words slots r may = granted_there other k same words slots r (granted_found r v.core.granted (record { row = r; has_position = true; has_generation = true }) may.both_set)
@@ -64,8 +71,10 @@ module _ {R B E : Type 0} {n rows : ℕ} {id : TableId} {v : PassView R B E} (ol
     held_rows = old.held_rows;
     stand = old.stand;
     links = old.links;
-    granted = λ q has. old.granted q (subst (λ (l : List ℕ). Has l q)
-        (part_keeps_rows r (Generation generation) (granted_after_part r (Position place) v.core.granted) ∙ part_keeps_rows r (Position place) v.core.granted) has);
+    granted = let same = part_keeps_rows r (Generation generation) (granted_after_part r (Position place) v.core.granted) ∙ part_keeps_rows r (Position place) v.core.granted in (
+      rows_numbered r generation (map (with_place r place) v.hand) ∙ (rows_placed r place v.hand ∙ (old.granted.0 ∙ sym same)),
+      λ q has. old.granted.1 q (subst (λ (l : List ℕ). Has l q) same has),
+    );
   }
 
   pub sized_opened : (r : ℕ) (place : Place) (generation : ℕ) → IsSized n rows id (opened v r place generation)
@@ -109,13 +118,13 @@ module _ {R B E : Type 0} {n rows : ℕ} {id : TableId} {v : PassView R B E} (ol
       go false false = all
 
   pub sized_entry : (linker : HeldRow R) (i x : ℕ) → (is_link x ≡ true → link_row x < v.layout.rows) → IsSized n rows id (entry_set v linker i x)
-  sized_entry linker i x below = go (is_link x)
+  sized_entry linker i x below = go (is_link x) refl
     where
       all_below : is_link x ≡ true → link_row x < rows
       all_below link = let less = below link in let same = old.rows_are in omega arith
 
-      go : (t : Bool) → IsSized n rows id (cond t (link_set v linker i x) (word_set v linker.row i x))
-      go true = record {
+      go : (t : Bool) → is_link x ≡ t → IsSized n rows id (cond t (link_set v linker i x) (word_set v linker.row i x))
+      go true link = record {
         slots = old.slots;
         words = old.words;
         rows_are = old.rows_are;
@@ -125,9 +134,13 @@ module _ {R B E : Type 0} {n rows : ℕ} {id : TableId} {v : PassView R B E} (ol
         stand = old.stand;
         links = λ h j. let o = contained_map (λ (y : HeldRow R). with_link linker i (link_row x) (with_word linker.row i x y)) v.rows h j in
             subst (λ (y : HeldRow R). LinksBelow rows y.words) o.2 (with_link_below linker i (link_row x) (with_word linker.row i x o.0) (with_word_below linker.row i x o.0 all_below (old.links o.0 o.1)));
-        granted = λ r has. old.granted r (entry_grants x v.core.granted r has);
+        granted = (
+          parts_without hand_part (link_row x) v.hand ∙ (ap (without (link_row x)) old.granted.0 ∙ (sym (parts_without (λ (g : GrantedRow). g.row) (link_row x) v.core.granted)
+              ∙ ap (λ (t : Bool). map (λ (g : GrantedRow). g.row) (cond t (filter (λ (g : GrantedRow). not (eqb g.row (link_row x))) v.core.granted) v.core.granted)) (sym link))),
+          λ r has. old.granted.1 r (entry_grants x v.core.granted r has),
+        );
       }
-      go false = record {
+      go false _ = record {
         slots = old.slots;
         words = old.words;
         rows_are = old.rows_are;

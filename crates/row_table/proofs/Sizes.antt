@@ -22,12 +22,12 @@ use Rattle.row_layout.specs.Places.{word_count}
 use Rattle.row_table.specs.declared.view.PassView.{PassView}
 use Rattle.row_table.specs.declared.view.HeldRow.{HeldRow}
 use Rattle.row_table.specs.Plan.{Meaning}
-use Rattle.row_table.specs.Rule.{levels_of, row_part, unmoved}
+use Rattle.row_table.specs.Rule.{levels_of, row_part, hand_part, unmoved}
 use Rattle.row_table.specs.Known.{LinksRow, LinksBelow, IsSized}
 use Rattle.row_table.specs.Moves.{grabbed, looked, got, released, MayGrab}
 use Rattle.row_table.specs.Looks.{looked_at, MayLook}
 use Rattle.row_table.specs.Crossings.{entered, left}
-use Rattle.row_table.specs.Books.{given, taken_rows, turned, waited, gave}
+use Rattle.row_table.specs.Books.{given, hand_rows, taken_rows, turned, waited, gave}
 use Rattle.row_table.specs.Stack.{AreRows}
 use Rattle.row_table.proofs.Views.{kept, has_row, rows_without}
 use Rattle.row_table.proofs.Turns.{same_parts, whole, contained_map}
@@ -162,10 +162,15 @@ module _ {R B E : Type 0} {n rows : ℕ} {id : TableId} {v : PassView R B E} (ol
       held_rows = same_parts given row_part row_part (λ x. refl) v.rows ∙ old.held_rows;
       stand = old.stand;
       links = λ h i. let o = contained_map given v.rows h i in subst (λ (y : HeldRow R). LinksBelow rows y.words) o.2 (old.links o.0 o.1);
-      granted = λ r has. let both = ap (times r) (granted_more v.core.granted (taken_rows M a b)) in let all = times-append r (granted_rows v.core) (taken_rows M a b) in dite (ℕ_discrete (times r (granted_rows v.core)) 0)
-          (λ none_before. let less = taken r (omega arith) in let same = old.rows_are in omega arith)
-          (λ before. old.granted r (omega arith));
+      granted = (
+        map-append hand_part v.hand (hand_rows M generation a b (taken_rows M a b)) ∙ ((λ i. old.granted.0 i
+            ++ (same_parts (λ r. record { row = r; generation = generation r; low = M.next_generation a; high = M.next_generation b; place = None }) hand_part (λ (x : ℕ). x) (λ x. refl) (taken_rows M a b) ∙ whole (taken_rows M a b)) i)
+            ∙ sym (granted_more v.core.granted (taken_rows M a b))),
+        λ r has. let both = ap (times r) (granted_more v.core.granted (taken_rows M a b)) in let all = times-append r (granted_rows v.core) (taken_rows M a b) in dite (ℕ_discrete (times r (granted_rows v.core)) 0)
+            (λ none_before. let less = taken r (omega arith) in let same = old.rows_are in omega arith)
+            (λ before. old.granted.1 r (omega arith)),
+      );
     }
 
 pub sized_new : {R B E : Type 0} (n rows : ℕ) (id : TableId) (k : Layout) (origin : Option B) → id.slots ≡ rows + 1 → id.words ≡ word_count k → rows ≡ k.rows → n < k.passes → IsSized n rows id (unmoved {R = R} {B = B} {E = E} k origin n)
-sized_new n rows id k origin slots words same less = record { slots = slots; words = words; rows_are = same; number = less; held_rows = refl; stand = λ s is. none_is s is; links = λ h i. let z = i.1 in absurd (omega arith); granted = λ r has. let z = times-nil r in absurd (omega arith) }
+sized_new n rows id k origin slots words same less = record { slots = slots; words = words; rows_are = same; number = less; held_rows = refl; stand = λ s is. none_is s is; links = λ h i. let z = i.1 in absurd (omega arith); granted = (refl, λ r has. let z = times-nil r in absurd (omega arith)) }

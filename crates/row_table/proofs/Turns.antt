@@ -122,6 +122,8 @@ module _ {R B E : Type 0} (M : Meaning R B E) where
         hand = λ x i. (know.hand x i).fresh;
         once = λ r. let p = parts r in let most = out-le-one h.good.states r in omega arith;
         there = λ r past. let p = parts r in let none_there = h.good.states.there r past in omega arith;
+        apart = λ r has. let its = (h.good.locks.rows.held v.number r (has_held M k first s h v mine r has)).in_hand in
+            let p = parts r in let i = ap (times_in_hand r) (pass_is M k first s h v mine) in omega arith;
       }
 
   pub turns : (k : Layout) (first : B) (slots id : ℕ) (m : Seat R B E) (n : ℕ) → IsOne n m → (view m).core.has_book ≡ false

@@ -108,7 +108,7 @@ module _ {R B E : Type 0} where
 
     -- What the steps tell
 
-    -- of a book that was got, where there are so many rows: it goes on from what the pass knows, and its rows are in no other list
+    -- of a book that was got, where there are so many rows: it goes on from what the pass knows, and its rows are in no other list and not held by the pass
     pub record Learns (rows : ℕ) (v : PassView R B E) (book : B) : Type 0 where
       pub right : IsRight v
       pub seen : StartsWith (M.journal book) v.seen
@@ -118,6 +118,7 @@ module _ {R B E : Type 0} where
       pub hand : (x : HandRow) → Contains v.hand x → x.high ≤ M.next_generation book
       pub once : (r : ℕ) → times r (M.free book) + times r (put_rows (M.limbo book)) + times_in_hand r v.core ≤ 1
       pub there : (r : ℕ) → rows ≤ r → times r (M.free book) + times r (put_rows (M.limbo book)) ≡ 0
+      pub apart : (r : ℕ) → Has v.core.held r → times r (M.free book) + times r (put_rows (M.limbo book)) ≡ 0
 
     -- of a turn that found n, where the book's slot is behind so many rows
     abbrev pub TurnSays : Seat R B E → ℕ → Seat R B E → ℕ → Type 0

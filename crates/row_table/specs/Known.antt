@@ -84,4 +84,5 @@ module _ {R B E : Type 0} where
     pub held_rows : map row_part v.rows ≡ v.core.held
     pub stand : (s : Stand) → v.core.stand ≡ Some s → s.row < rows
     pub links : (h : HeldRow R) → Contains v.rows h → LinksBelow rows h.words
-    pub granted : (r : ℕ) → Has (granted_rows v.core) r → r < rows
+    -- the rows of its hand are those that it was granted, and are there
+    pub granted : (map hand_part v.hand ≡ granted_rows v.core) × ((r : ℕ) → Has (granted_rows v.core) r → r < rows)

@@ -15,6 +15,7 @@ pub mod Rooms
 pub mod Close
 pub mod Uses
 pub mod Start
+pub mod StartWords
 pub mod Passes
 pub mod Standing
 pub mod Tally

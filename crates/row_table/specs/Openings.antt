@@ -10,8 +10,8 @@ use Rattle.table_place.specs.declared.Place.{Place}
 use Rattle.table_place.specs.Place.{is_place}
 use Rattle.walk_core.specs.declared.event.SetPart.TheVariants.{Position, Generation}
 use Rattle.walk_core.specs.Words.{lock_at, position_at, generation_at, place_shown}
-use Rattle.walk_core.specs.Lists.{times, Has}
-use Rattle.walk_core.specs.Core.{granted_rows, granted_at, set_up}
+use Rattle.walk_core.specs.Lists.{times}
+use Rattle.walk_core.specs.Core.{granted_at, set_up}
 use Rattle.walk_core.specs.Events.{granted_after_part}
 use Rattle.row_table.specs.declared.plan.Content.TheVariants.{Row}
 use Rattle.row_table.specs.declared.view.PassView.{PassView}
@@ -43,12 +43,11 @@ module _ {R B E : Type 0} where
   abbrev pub prepared : PassView R B E → ℕ → Place → ℕ → PassView R B E
   prepared v row place generation = numbered (placed v row place) row generation
 
-  -- The row was granted and is not open. The generation is greater than that of the row, at least the next one of the turn in which it was granted, and below the next one of that give.
+  -- The row is in the hand and is not open. The generation is greater than that of the row, at least the next one of the turn in which it was granted, and below the next one of that give.
   pub record MaySetUp (v : PassView R B E) (row : ℕ) (place : Place) (generation : ℕ) : Type 0 where
     pub known : HandRow
     pub in_hand : Contains v.hand known
     pub same_row : known.row ≡ row
-    pub granted : Has (granted_rows v.core) row
     pub closed : times row v.core.held ≡ 0
     pub is_place : is_place (levels_of v.layout) place ≡ true
     pub above : known.generation < generation

@@ -17,6 +17,7 @@ mod plan;
 mod rooms;
 mod sowing;
 mod stack;
+mod start_laws;
 mod table;
 #[cfg(test)]
 mod tests;
@@ -29,5 +30,6 @@ pub use laws::a_pass_stands_on_the_row_that_it_came_to;
 pub use pass::Pass;
 pub use plan::Plan;
 pub use row_layout::Layout;
+pub use start_laws::a_table_starts_with_an_empty_space;
 pub use table::Iron;
 pub use view::{Finding, HandRow, HeldRow, PassView};

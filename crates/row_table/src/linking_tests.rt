@@ -74,7 +74,7 @@ fn grant(iron: &Iron<Supply>, mut pass: Pass<Supply>) -> Option<(Pass<Supply>, u
     let Some(row) = free.pop() else {
         return None;
     };
-    if row == 1 || row >= 1024 || next >= 1 << 30 {
+    if row >= 1024 || next >= 1 << 30 {
         return None;
     }
     pass.give(iron, (free, limbo, next + 1));

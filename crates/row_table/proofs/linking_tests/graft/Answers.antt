@@ -1,13 +1,11 @@
 use Rattle.std.proofs.Common.{◌≡◌, ℕ, ◌+◌, ◌*◌, ap}
 use Rattle.row_table.specs.Passes.{view_of}
-use Rattle.row_table.proofs.Grafts.{may_prepare, may_open_one, may_link_one, may_cut_one, may_mark_held, may_mark_unlinked, marked_one}
+use Rattle.row_table.proofs.Grafts.{may_prepare, may_link_one, may_cut_one, may_mark_held, may_mark_unlinked, marked_one}
 use Rattle.row_table.proofs.linking_tests.graft.Goals as goal
 
 pub set_up-requires-clause-guard : goal.set_up-requires-clause-guard
 set_up-requires-clause-guard c κs = may_prepare _ _ _ c.requires.grant
 
-pub open_row-content-requires-clause-guard : goal.open_row-content-requires-clause-guard
-open_row-content-requires-clause-guard c κs = may_open_one _ _ _ _ c.requires.grant c.set_up.ensures.sets_up
 
 pub set_entry-requires-clause-guard : goal.set_entry-requires-clause-guard
 set_entry-requires-clause-guard c κs = let o = c.open_row-content.ensures.opens in
