@@ -24,4 +24,7 @@ pub mod Stock
 pub mod Grafts
 pub mod Visits
 pub mod Standing
+pub mod Holding
+pub mod Tree
+pub mod Stepping
 pub mod Closings

@@ -5,7 +5,7 @@ use Rattle.std.proofs.lemmas.List.Elements.{Contains-append_right}
 use Rattle.table_place.specs.declared.Place.{Place}
 use Rattle.table_place.specs.Place.{entry_place}
 use Rattle.walk_core.specs.Lists.{times, Has, without}
-use Rattle.walk_core.proofs.RowLists.{times-nil, times_one_same}
+use Rattle.walk_core.proofs.RowLists.{times-nil}
 use Rattle.row_table.specs.declared.view.PassView.{PassView}
 use Rattle.row_table.specs.Plan.{Meaning}
 use Rattle.row_table.specs.Rule.{levels_of}
@@ -49,9 +49,6 @@ module _ {R B E : Type 0} where
     row_there = last_row v row place generation words x;
     held = ap (λ (l : List ℕ). l ++ row ∷ []) s.held;
   })
-
-  pub holds_it : {v : PassView R B E} {row : ℕ} {x : R} → HasGot v row x → Has v.core.held row
-  holds_it {v} {row} {x} g = subst (λ (l : List ℕ). Has l row) (sym g.held) (let one = times_one_same row row refl in omega arith)
 
   pub fits_it : (M : Meaning R B E) {v : PassView R B E} {row : ℕ} {x : R} → HasGot v row x → Fits M v row x
   fits_it M {v} {row} {x} g = record { known = grabbed row g.place g.generation g.words x; held = g.row_there; same_row = refl; content_fits = inl (refl, refl, refl) }

@@ -17,5 +17,8 @@ pub mod Uses
 pub mod Start
 pub mod Passes
 pub mod Standing
+pub mod Holding
+pub mod Tree
+pub mod Stepping
 pub mod Tally
 pub mod Stock

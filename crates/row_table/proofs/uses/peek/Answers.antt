@@ -1,10 +1,6 @@
-use Rattle.row_table.proofs.Visits.{got_it, holds_it, fits_it, stands_again, stands_still, found_here}
+use Rattle.row_table.proofs.Visits.{got_it, fits_it, stands_again, stands_still, found_here}
 use Rattle.row_table.specs.Tally.{tally}
 use Rattle.row_table.proofs.uses.peek.Goals as goal
-
-pub release-requires-clause-held : goal.release-requires-clause-held
-release-requires-clause-held c κs = let t = c.in-Got.ensures.grabs in
-    holds_it (got_it _ _ c.args.row t.0.place t.0.generation t.0.words c.in-Got.found c.requires.stands t.2)
 
 pub release-requires-clause-fits : goal.release-requires-clause-fits
 release-requires-clause-fits c κs = let t = c.in-Got.ensures.grabs in

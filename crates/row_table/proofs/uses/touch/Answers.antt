@@ -1,10 +1,6 @@
 use Rattle.std.proofs.Common.{◌≡◌, ◌∙◌, refl}
-use Rattle.row_table.proofs.Visits.{has_got, holds_it, fits_it, another, found_got, found_missed}
+use Rattle.row_table.proofs.Visits.{has_got, fits_it, another, found_got, found_missed}
 use Rattle.row_table.proofs.uses.touch.Goals as goal
-
-pub release-requires-clause-held : goal.release-requires-clause-held
-release-requires-clause-held g c κs within = let t = c.in-Got.ensures.grabs in
-    holds_it (has_got _ _ _ c.args.row t.0.place t.0.generation t.0.words c.in-Got.content c.requires.stands t.2 c.leave.ensures.leaves)
 
 pub release-requires-clause-fits : goal.release-requires-clause-fits
 release-requires-clause-fits g c κs within = let t = c.in-Got.ensures.grabs in
