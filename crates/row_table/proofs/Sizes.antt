@@ -32,7 +32,7 @@ use Rattle.row_table.specs.Stack.{AreRows}
 use Rattle.row_table.proofs.Views.{kept, has_row, rows_without}
 use Rattle.row_table.proofs.Turns.{same_parts, whole, contained_map}
 
-some_is : {X : Type 0} (x y : X) → Some x ≡ Some y → x ≡ y
+pub some_is : {X : Type 0} (x y : X) → Some x ≡ Some y → x ≡ y
 some_is x y e = cc
 
 none_is : {X : Type 0} {F : Type 0} (x : X) → None ≡ Some x → F
