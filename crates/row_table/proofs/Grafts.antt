@@ -418,9 +418,8 @@ put_marked v0 v1 book row root other e1 = (
   ap (times row) (ap (λ (v : View). v.core.held) e1 ∙ root.held) ∙ row_has row other,
 )
 
-pub may_release_root : (v : View) → HasRoot v 0 (1 ∷ []) [] [] true → Has v.core.held 1 × NotInHand v 1 × Fits stock v 1 0
+pub may_release_root : (v : View) → HasRoot v 0 (1 ∷ []) [] [] true → NotInHand v 1 × Fits stock v 1 0
 may_release_root v root = (
-  (let same = ap (times 1) root.held in let one = times_one_same 1 1 refl in omega arith),
   (let a = ap (λ (gs : List GrantedRow). times 1 (map (λ (g : GrantedRow). g.row) gs)) root.granted in let b = ap (λ (us : List UnlinkedRow). times 1 (map (λ (u : UnlinkedRow). u.row) us)) root.unlinked in let n = times-nil 1 in omega arith),
   record { known = root.row_one; held = root.there; same_row = root.number; content_fits = inr (root.is_given, let b = root.last refl in (b.0, b.1, λ _. refl)) },
 )

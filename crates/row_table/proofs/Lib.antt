@@ -26,6 +26,9 @@ pub mod Stock
 pub mod Grafts
 pub mod Visits
 pub mod Standing
+pub mod Holding
+pub mod Tree
+pub mod Stepping
 pub mod Closings
 pub mod SownPlaces
 pub mod SownSteps

@@ -32,7 +32,7 @@ use Rattle.row_table.specs.Stack.{AreRows}
 use Rattle.row_table.proofs.Views.{kept, has_row, rows_without}
 use Rattle.row_table.proofs.Turns.{same_parts, whole, contained_map}
 
-some_is : {X : Type 0} (x y : X) → Some x ≡ Some y → x ≡ y
+pub some_is : {X : Type 0} (x y : X) → Some x ≡ Some y → x ≡ y
 some_is x y e = cc
 
 none_is : {X : Type 0} {F : Type 0} (x : X) → None ≡ Some x → F
@@ -91,11 +91,11 @@ module _ {R B E : Type 0} {n rows : ℕ} {id : TableId} {v : PassView R B E} (ol
   held_there are other k same words slots r has = let all = (same_sizes other k same words slots).0 in ⊎_elim (λ (less : r < rows). omega arith) (λ past. let none = (are r).1 past in absurd (omega arith)) (cases_lt r rows)
 
   -- a row of the view is held, and so it is there
-  view_held : (h : HeldRow R) → Contains v.rows h → Has v.core.held h.row
-  view_held h i = subst (λ (l : List ℕ). Has l h.row) old.held_rows (has_row v.rows h i)
+  pub view_held : (h : HeldRow R) → Contains v.rows h → (r : ℕ) → h.row ≡ r → Has v.core.held r
+  view_held h i r is = subst (Has v.core.held) is (subst (λ (l : List ℕ). Has l h.row) old.held_rows (has_row v.rows h i))
 
   pub view_there : AreRows rows v.core.held → (other : TableId) (k : Layout) → id ≡ other → other.words ≡ word_count k → other.slots ≡ k.rows + 1 → (h : HeldRow R) → Contains v.rows h → (r : ℕ) → h.row ≡ r → r < k.rows
-  view_there are other k same words slots h i r is = held_there are other k same words slots r (subst (Has v.core.held) is (view_held h i))
+  view_there are other k same words slots h i r is = held_there are other k same words slots r (view_held h i r is)
 
   -- after each step
 

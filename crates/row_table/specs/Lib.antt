@@ -18,6 +18,9 @@ pub mod Start
 pub mod StartWords
 pub mod Passes
 pub mod Standing
+pub mod Holding
+pub mod Tree
+pub mod Stepping
 pub mod Tally
 pub mod Stock
 pub mod Sown

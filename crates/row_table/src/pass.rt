@@ -104,7 +104,6 @@ impl<P: Plan> Pass<P> {
     /// Gives a row back, with this content.
     pub fn release(&mut self, iron: &Iron<P>, row: u32, content: P::Row)
         requires table { IsPassOf iron.now self.old }
-        requires held { Has (view_of self.old).core.held row }
         requires linked { NotInHand (view_of self.old) row }
         requires fits { Fits P.meaning (view_of self.old) row content }
         ensures table { table_of self.new ≡ table_of self.old }

@@ -2,7 +2,7 @@ ghost use Rattle.std.specs.Prelude.{◌≡◌, ◌<◌, ℕ, length, IfOk, IsSom
 ghost use Rattle.row_table.specs.Passes.{view_of, kit_of, table_of, IsPassOf};
 ghost use Rattle.row_table.specs.Close.{IsIdle};
 
-use crate::uses::{Tally, Visit, add_entry, journal_at_end, look_in, peek};
+use crate::uses::{Addition, Tally, Visit, add_entry, journal_at_end, look_in, peek};
 use crate::{Grabbed, Iron, IronClose, Layout, Pass};
 use std::alloc::{AllocError, Global};
 use std::sync::Wait;
@@ -63,7 +63,7 @@ fn note<R: Wait>(rt: &R, iron: &Iron<Tally>, pass: &mut Pass<Tally>, count: u32)
     ensures idle { IsIdle (view_of pass.new) }
 {
     for _ in rt.forever() {
-        if add_entry(iron, pass, count) {
+        if matches!(add_entry(iron, pass, count), Addition::Added) {
             return;
         }
         thread::yield_now();
