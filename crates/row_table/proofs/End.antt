@@ -211,7 +211,7 @@ module _ {R B E : Type 0} where
         agree = λ r x reached there. let l = reached_linked h.good r reached in let t = h.contents.linked r l.there (linked_free r l) in
             let both = sym (at r (Some (Row t.0)) t.1) ∙ there in let same : t.0 ≡ x = cc in subst (M.agrees h.book (place_at s.words r) (row_words s.words r)) same t.2;
         blank = λ r x less unreached there. ⊎_elim
-            (λ (z : lock_of s.words r ≡ 0). absurd (unreached (reached_up 6 r (omega arith) (free_linked h.good.locks.rows r less z))))
+            (λ (z : lock_of s.words r ≡ 0). absurd (unreached (linked_reached h.good r (free_linked h.good.locks.rows r less z))))
             (λ (z : lock_of s.words r ≡ stale). let t = h.contents.others r less z in let both = sym (at r (Some (Row t.0)) t.1) ∙ there in let same : t.0 ≡ x = cc in subst M.is_blank same t.2)
             (locks r less);
         knows = λ v i. let know = h.knows v.number v (view_there v i) in (know.there, record { same_epoch = know.epoch; fixed = λ b e. let opt = sym know.origin ∙ e in let same : first ≡ b = cc in subst (λ (y : B). M.same_fixed y h.book) same h.fixed; seen = know.seen; mine = know.mine });

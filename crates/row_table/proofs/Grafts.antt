@@ -27,7 +27,7 @@ use Rattle.row_table.specs.Books.{given, hand_rows, taken_rows, put_list, turned
 use Rattle.row_table.specs.Openings.{with_place, with_number, opened_row, prepared, opened, MaySetUp, IsSetUp}
 use Rattle.row_table.specs.Links.{with_word, newly_linked, with_link, link_set, word_set, entry_cut, MaySetEntry, Sets, MayUnlink, Unlinks}
 use Rattle.row_table.specs.Close.{IsIdle}
-use Rattle.row_table.specs.Stock.{Stock, stock, View, HasRoot, HasGrant}
+use Rattle.row_table.specs.Stock.{Stock, stock, View, HasRoot, HasGrant, HasGraft}
 use Rattle.row_table.proofs.Views.{head_or_later, in_head, in_tail}
 use Rattle.row_table.proofs.Openings.{blank_zero, in_map}
 use Rattle.row_table.proofs.Stock.{taken_is, put_is, taken_none}
@@ -36,7 +36,7 @@ use Rattle.row_table.proofs.Stock.{taken_is, put_is, taken_none}
 abbrev pub root_link : ℕ
 root_link = 4198919
 
-root_is_link : is_link root_link ≡ true
+pub root_is_link : is_link root_link ≡ true
 unfolding is_link link_word
 root_is_link = refl
 
@@ -287,26 +287,7 @@ kept_in {X} t (y ∷ ys) x i e = ⊎_elim
 
 -- What the pass has after the entry links the row, and after it is 0 again
 
-record IsGrafted (v v3 : View) (row word : ℕ) : Type 0 where
-  pub linker : HeldRow ℕ
-  pub there : Contains v3.rows linker
-  pub number : linker.row ≡ 1
-  pub place : linker.place ≡ entry_place (levels_of v3.layout) directory 0
-  pub long : length linker.words ≡ 512
-  pub word_five : get_or linker.words 5 0 ≡ word
-  pub is_given : linker.is_given ≡ true
-  pub child : HeldRow ℕ
-  pub child_there : Contains v3.rows child
-  pub child_row : child.row ≡ row
-  pub child_words : child.words ≡ blank_words
-  pub granted : v3.core.granted ≡ []
-  pub unlinked : v3.core.unlinked ≡ []
-  pub held : v3.core.held ≡ 1 ∷ row ∷ []
-  pub last : v3.last ≡ v.last
-  pub outside : v3.core.stand ≡ None
-  pub has_not : v3.core.has_book ≡ false
-
-link_one : (v v1 v2 v3 : View) (row g word : ℕ) → HasGrant v row g → v1 ≡ prepared v row child_place g → (at : IsSetUp v1 row) → v2 ≡ opened v1 row at.place at.known.generation → word ≡ 519 + 4096 * row + 4194304 * g → Sets 1 5 word v2 v3 → IsGrafted v v3 row word
+pub link_one : (v v1 v2 v3 : View) (row g word : ℕ) → HasGrant v row g → v1 ≡ prepared v row child_place g → (at : IsSetUp v1 row) → v2 ≡ opened v1 row at.place at.known.generation → word ≡ 519 + 4096 * row + 4194304 * g → Sets 1 5 word v2 v3 → HasGraft v3 row
 link_one v v1 v2 v3 row g word may e1 at e2 is sets =
     let o = open_one v v1 v2 row g may e1 at e2 in let l = link_of word row g may.small may.few is in let root = may.root in let r : HeldRow ℕ = root.row_one in
     let c : ℕ = link_row word in
@@ -323,13 +304,15 @@ link_one v v1 v2 v3 row g word may e1 at e2 is sets =
     let rows : v3.rows ≡ map f v2.rows = ap (λ (u : View). u.rows) e3 in
     let layout : v3.layout ≡ v.layout = ap (λ (u : View). u.layout) e3 ∙ o.layout in
     let done : GrantedRow = record { row = row; has_position = true; has_generation = true } in
+    let long = root.long in let five : get_or (set r.words 5 word) 5 0 ≡ word = get_or-set_same r.words 5 word 0 (omega arith) in
     record {
       linker = record z { vacant = without 5 r.vacant };
       there = subst (λ (xs : List (HeldRow ℕ)). Contains xs (record z { vacant = without 5 r.vacant })) (sym rows) (subst (Contains (map f v2.rows)) root_is (in_map f v2.rows r (o.root_there r root.there)));
       number = root.number;
       place = root.place ∙ ap (λ (y : Layout). entry_place (levels_of y) directory 0) (sym layout);
       long = length-set r.words 5 word ∙ root.long;
-      word_five = (let long = root.long in get_or-set_same r.words 5 word 0 (omega arith));
+      link = ap is_link five ∙ l.link;
+      to_row = ap link_row five ∙ l.to_row;
       is_given = root.is_given;
       child = newly_linked r 5 o.child;
       child_there = subst (λ (xs : List (HeldRow ℕ)). Contains xs (newly_linked r 5 o.child)) (sym rows) (subst (Contains (map f v2.rows)) child_is (in_map f v2.rows o.child o.child_there));
@@ -339,54 +322,50 @@ link_one v v1 v2 v3 row g word may e1 at e2 is sets =
           ∙ (ap (λ (b : Bool). cond b (cond (not (eqb row c)) (done ∷ []) []) (done ∷ [])) l.link ∙ ap (λ (b : Bool). cond (not b) (done ∷ []) []) (eq-eqb row c (sym l.to_row))));
       unlinked = ap (λ (u : View). u.core.unlinked) e3 ∙ o.unlinked;
       held = ap (λ (u : View). u.core.held) e3 ∙ o.held;
-      last = ap (λ (u : View). u.last) e3 ∙ o.last;
+      last = (let b = root.last refl in (b.0, ap (λ (u : View). u.last) e3 ∙ (o.last ∙ b.1)));
       outside = ap (λ (u : View). u.core.stand) e3 ∙ o.outside;
       has_not = ap (λ (u : View). u.core.has_book) e3 ∙ o.has_not;
+      other = may.other;
     }
 
-module _ (v v1 v2 v3 v4 v5 : View) (row g word : ℕ) (may : HasGrant v row g) (e1 : v1 ≡ prepared v row child_place g) (at : IsSetUp v1 row) (e2 : v2 ≡ opened v1 row at.place at.known.generation)
-    (is : word ≡ 519 + 4096 * row + 4194304 * g) (sets : Sets 1 5 word v2 v3) where
-  linked : IsGrafted v v3 row word
-  linked = link_one v v1 v2 v3 row g word may e1 at e2 is sets
-
+module _ (v3 v4 v5 : View) (row : ℕ) (o : HasGraft v3 row) where
   pub may_cut_one : MayUnlink v3 1 5
-  may_cut_one = let o = linked in let l = link_of word row g may.small may.few is in record {
+  may_cut_one = record {
     linker = o.linker;
     held = o.there;
     same_row = o.number;
     inside = omega arith;
-    link = ap is_link o.word_five ∙ l.link;
+    link = o.link;
     child = o.child;
     child_held = o.child_there;
-    child_row = o.child_row ∙ (sym l.to_row ∙ ap link_row (sym o.word_five));
+    child_row = o.child_row ∙ sym o.to_row;
     child_empty = λ i low. ap (λ (ws : List ℕ). get_or ws i 0) o.child_words ∙ blank_zero i low;
   }
 
   module _ (cuts : Unlinks 1 5 v3 v4) where
-    cut_is : v4 ≡ entry_cut v3 linked.linker 5
-    cut_is = let o = linked in cuts o.linker o.there o.number
+    cut_is : v4 ≡ entry_cut v3 o.linker 5
+    cut_is = cuts o.linker o.there o.number
 
     cut_unlinked : v4.core.unlinked ≡ newly_unlinked row ∷ []
-    cut_unlinked = let o = linked in let l = link_of word row g may.small may.few is in
-        ap (λ (u : View). u.core.unlinked) cut_is ∙ (λ j. o.unlinked j ++ newly_unlinked ((ap link_row o.word_five ∙ l.to_row) j) ∷ [])
+    cut_unlinked = ap (λ (u : View). u.core.unlinked) cut_is ∙ (λ j. o.unlinked j ++ newly_unlinked (o.to_row j) ∷ [])
 
     cut_held : v4.core.held ≡ 1 ∷ row ∷ []
-    cut_held = let o = linked in ap (λ (u : View). u.core.held) cut_is ∙ o.held
+    cut_held = ap (λ (u : View). u.core.held) cut_is ∙ o.held
 
     pub may_mark_held : Has v4.core.held row
-    may_mark_held = let same = ap (times row) cut_held in let all = times-cons_other row 1 (row ∷ []) (λ e. may.other (sym e)) in let one = times_one_same row row refl in omega arith
+    may_mark_held = let same = ap (times row) cut_held in let all = times-cons_other row 1 (row ∷ []) (λ e. o.other (sym e)) in let one = times_one_same row row refl in omega arith
 
     pub may_mark_unlinked : Has (unlinked_rows v4.core) row
     may_mark_unlinked = let same = ap (λ us. times row (map (λ u. u.row) us)) cut_unlinked in let one = times_one_same row row refl in omega arith
 
     pub marked_one : v5 ≡ released v4 row → HasRoot v5 0 (1 ∷ []) [] (newly_unlinked row ∷ []) true
     marked_one e5 =
-        let o = linked in let r : HeldRow ℕ = o.linker in let y : HeldRow ℕ = record r { words = set r.words 5 0 } in
+        let r : HeldRow ℕ = o.linker in let y : HeldRow ℕ = record r { words = set r.words 5 0 } in
         let long = o.long in
         let is_there : with_word r.row 5 0 r ≡ y = ap (λ (b : Bool). cond b y r) (eq-eqb r.row r.row refl) in
         let there4 : Contains v4.rows y = subst (λ (xs : List (HeldRow ℕ)). Contains xs y) (sym (ap (λ (u : View). u.rows) cut_is)) (subst (Contains (map (with_word r.row 5 0) v3.rows)) is_there (in_map (with_word r.row 5 0) v3.rows r o.there)) in
         let layout : v5.layout ≡ v3.layout = ap (λ (u : View). u.layout) e5 ∙ ap (λ (u : View). u.layout) cut_is in
-        let other : eqb y.row row ≡ false = ne_eqb y.row row (λ e. may.other (sym e ∙ o.number)) in
+        let other : eqb y.row row ≡ false = ne_eqb y.row row (λ e. o.other (sym e ∙ o.number)) in
         record {
           row_one = y;
           there = subst (λ (xs : List (HeldRow ℕ)). Contains xs y) (sym (ap (λ (u : View). u.rows) e5)) (kept_in (λ (h : HeldRow ℕ). not (eqb h.row row)) v4.rows y there4 (ap not other));
@@ -395,8 +374,8 @@ module _ (v v1 v2 v3 v4 v5 : View) (row g word : ℕ) (may : HasGrant v row g) (
           long = length-set r.words 5 0 ∙ o.long;
           word_five = get_or-set_same r.words 5 0 0 (omega arith);
           is_given = o.is_given;
-          last = λ _. let b = may.root.last refl in (b.0, ap (λ (u : View). u.last) e5 ∙ (ap (λ (u : View). u.last) cut_is ∙ (o.last ∙ b.1)));
-          held = ap (λ (u : View). u.core.held) e5 ∙ (ap (without row) cut_held ∙ (ap (λ (b : Bool). cond (not b) (1 ∷ without row (row ∷ [])) (without row (row ∷ []))) (ne_eqb 1 row (λ e. may.other (sym e)))
+          last = λ _. (o.last.0, ap (λ (u : View). u.last) e5 ∙ (ap (λ (u : View). u.last) cut_is ∙ o.last.1));
+          held = ap (λ (u : View). u.core.held) e5 ∙ (ap (without row) cut_held ∙ (ap (λ (b : Bool). cond (not b) (1 ∷ without row (row ∷ [])) (without row (row ∷ []))) (ne_eqb 1 row (λ e. o.other (sym e)))
               ∙ ap (λ (b : Bool). 1 ∷ cond (not b) (row ∷ []) []) (eq-eqb row row refl)));
           outside = ap (λ (u : View). u.core.stand) e5 ∙ (ap (λ (u : View). u.core.stand) cut_is ∙ o.outside);
           granted = ap (λ (u : View). u.core.granted) e5 ∙ (ap (λ (u : View). u.core.granted) cut_is ∙ o.granted);

@@ -32,3 +32,4 @@ pub mod Stepping
 pub mod Closings
 pub mod SownPlaces
 pub mod SownSteps
+pub mod SownRoot

@@ -105,7 +105,7 @@ record Stage (v : View) (k : Layout) (stand : Option Stand) (rows : List (HeldRo
   pub last_is : v.last ≡ last
   pub has_not : v.core.has_book ≡ false
 
-empty_map : {X Y : Type 0} (f : X → Y) (xs : List X) → map f xs ≡ [] → xs ≡ []
+pub empty_map : {X Y : Type 0} (f : X → Y) (xs : List X) → map f xs ≡ [] → xs ≡ []
 empty_map f [] e = refl
 empty_map f (x ∷ xs) e = let long = ap length e in absurd (omega arith)
 
@@ -379,9 +379,6 @@ module _ (v0 v1 v2 : View) (book new : Seeds) (row index : ℕ) (place : Place) 
 
             linked_there : Contains v5.rows linked
             linked_there = subst (λ (l : List (HeldRow Bool)). Contains l linked) (sym stage5.rows_are) (in_tail grown (linked ∷ []) linked (in_head linked []))
-
-            pub may_release_held : Has v5.core.held child
-            may_release_held = let same = ap (times child) stage5.held_are in let all = times-cons_other child h.row (child ∷ []) other in let one = times_one_same child child refl in omega arith
 
             pub may_release_linked : NotInHand v5 child
             may_release_linked = let a = ap (λ (gs : List GrantedRow). times child (map (λ (x : GrantedRow). x.row) gs)) stage5.granted in let b = ap (λ us. times child (map (λ u. u.row) us)) stage5.unlinked in let n = times-nil child in omega arith

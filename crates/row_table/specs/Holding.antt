@@ -1,7 +1,7 @@
 -- What is always true of the rows that passes hold.
 --     HeldTrue      a held row is there and locked by its pass, the words show what the view says of it, and if the pass's hand does not have it, links reach it from row 0
 --     RowsTrue      the same of each row of each pass of every seat
-use Rattle.std.specs.Prelude.{◌≡◌, ℕ, ◌<◌, List, Some}
+use Rattle.std.specs.Prelude.{◌≡◌, ℕ, ◌<◌, List}
 use Rattle.std.specs.List.{Contains}
 use Rattle.walk_core.specs.Words.{held_by}
 use Rattle.row_layout.specs.declared.places.Layout.{Layout}
@@ -17,7 +17,7 @@ module _ {R B E : Type 0} where
     pub there : h.row < k.rows
     pub locked : lock_of words h.row ≡ held_by v.number
     pub place : place_at words h.row ≡ h.place
-    pub generation : (g : ℕ) → h.generation ≡ Some g → generation_of words h.row ≡ g
+    pub generation : generation_of words h.row ≡ h.generation
     pub words_are : row_words words h.row ≡ h.words
     pub reached : NotInHand v h.row → IsReached words h.row
 

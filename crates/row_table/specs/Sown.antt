@@ -3,6 +3,7 @@
 --     sown, lawful      the plan and its laws
 --     View, HoldsAlone      what a pass knows, and one that holds this row and has nothing else
 --     MaySow      a new row may be linked at an entry of the only row that the pass holds, at this position
+--     bed, HasRoot      the position below entry 5 of the root of space 0, and what a pass has that may sow there
 --     SameSeeds, Draws      a book that is as it was, and one from which a row and a generation were taken and that lists one position more
 --     KeepsRow, Sows      the pass still holds the row, and what a sowing does
 use Rattle.std.specs.Prelude.{◌≡◌, ℕ, ◌+◌, ◌^◌, ◌<◌, ◌≤◌, ⊤, Bool, true, false, ◌&&◌, List, [], ◌∷◌, ◌++◌, length, slice_index, slice_set, nat_eq, Option, None, Some}
@@ -76,6 +77,15 @@ pub record MaySow (v : View) (row index : ℕ) (place : Place) : Type 0 where
   pub no_link : is_link (slice_index known.words index) ≡ false
   pub below : place ≡ entry_place (levels_of v.layout) known.place index
   pub is_place : is_place (levels_of v.layout) place ≡ true
+
+abbrev pub bed : Place
+bed = record { space = 0; level = 3; prefix = 5 }
+
+-- It holds row 1 alone, is outside, may sow at the entry 5, and may give the row back with this content.
+pub record HasRoot (v : View) (content : Bool) : Type 0 where
+  pub may : MaySow v 1 5 bed
+  pub fits : Fits sown v 1 content
+  pub outside : v.core.stand ≡ None
 
 -- What it does
 

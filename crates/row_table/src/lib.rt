@@ -17,6 +17,8 @@ mod pass;
 mod plan;
 mod rooms;
 mod sowing;
+#[cfg(test)]
+mod sowing_tests;
 mod stack;
 mod start_laws;
 mod table;

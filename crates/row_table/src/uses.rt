@@ -72,7 +72,7 @@ fn linked(word: u64) -> Option<u32>
 }
 
 // Goes on to the row that an entry links, if it links one.
-fn go_down<P: Plan>(iron: &Iron<P>, pass: &mut Pass<P>, row: u32, index: u32) -> u32
+pub(crate) fn go_down<P: Plan>(iron: &Iron<P>, pass: &mut Pass<P>, row: u32, index: u32) -> u32
     requires table { IsPassOf iron.now pass.old }
     requires inside { index < 512 }
     requires stands { IsStanding (view_of pass.old) row }
@@ -90,7 +90,7 @@ fn go_down<P: Plan>(iron: &Iron<P>, pass: &mut Pass<P>, row: u32, index: u32) ->
 }
 
 // Takes the row, leaves, and gives it back.
-fn touch<P: Plan>(iron: &Iron<P>, pass: &mut Pass<P>, row: u32) -> Visit
+pub(crate) fn touch<P: Plan>(iron: &Iron<P>, pass: &mut Pass<P>, row: u32) -> Visit
     requires table { IsPassOf iron.now pass.old }
     requires stands { IsStanding (view_of pass.old) row }
     ensures table { table_of pass.new ≡ table_of pass.old }
