@@ -33,3 +33,4 @@ pub mod Closings
 pub mod SownPlaces
 pub mod SownSteps
 pub mod SownRoot
+pub mod SownPair

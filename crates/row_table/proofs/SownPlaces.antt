@@ -1,5 +1,5 @@
 -- Where a pass holds one row, it may change the position below an entry of it that is no link, and a book that lists this position too lists all others as before.
-use Rattle.std.proofs.Common.{◌≡◌, ◌≢◌, ℕ, ◌+◌, ◌-◌, ◌*◌, ◌/◌, ◌^◌, ◌<◌, ◌≤◌, ◌⊎◌, Bool, cond, true, false, ◌&&◌, ◌||◌, List, [], ◌∷◌, ◌++◌, get_or, sym, refl, ap, ◌∙◌, subst, inl, inr, ⊎_elim, arith, eqb, eq-eqb, ne_eqb}
+use Rattle.std.proofs.Common.{◌≡◌, ◌≢◌, ℕ, ◌+◌, ◌-◌, ◌*◌, ◌/◌, ◌^◌, ◌<◌, ◌≤◌, Bool, cond, true, false, ◌&&◌, ◌||◌, List, [], ◌∷◌, ◌++◌, get_or, sym, refl, ap, ◌∙◌, subst, ⊎_elim, arith, eqb, eq-eqb, ne_eqb}
 use Rattle.std.specs.List.{Contains, list_any}
 use Rattle.std.proofs.lemmas.Bool.{and_parts, and_from, eqb-true, cases_Bool, cond-false}
 use Rattle.std.proofs.lemmas.List.Folds.{list_any-append}
@@ -14,7 +14,7 @@ use Rattle.row_table.specs.declared.sowing.Seeds.{Seeds}
 use Rattle.row_table.specs.Plan.{IsOutside, IsUntouched, Covers}
 use Rattle.row_table.specs.Rule.{levels_of}
 use Rattle.row_table.specs.Moves.{NotInHand}
-use Rattle.row_table.specs.Books.{IsHeldAt, IsBelow, region}
+use Rattle.row_table.specs.Books.{IsHeldAt, region}
 use Rattle.row_table.specs.Sown.{View, same_place, lists, KeepsListed}
 use Rattle.row_table.proofs.Views.{head_or_later, in_head}
 use Rattle.row_table.proofs.Spans.{level_of, below_is, entry_page, first_page, same_span}
@@ -104,13 +104,13 @@ module _ (v : View) (h : HeldRow Bool) (index : ℕ) (rows : v.rows ≡ h ∷ []
 
 -- Lists of positions
 
-same_is : (p q : Place) → same_place p q ≡ true → p ≡ q
+pub same_is : (p q : Place) → same_place p q ≡ true → p ≡ q
 same_is p q e =
     let a = and_parts (eqb p.space q.space) (eqb p.level q.level && eqb p.prefix q.prefix) e in
     let b = and_parts (eqb p.level q.level) (eqb p.prefix q.prefix) a.1 in
     λ i. record { space = eqb-true p.space q.space a.0 i; level = eqb-true p.level q.level b.0 i; prefix = eqb-true p.prefix q.prefix b.1 i }
 
-same_self : (p : Place) → same_place p p ≡ true
+pub same_self : (p : Place) → same_place p p ≡ true
 same_self p = and_from _ _ (eq-eqb p.space p.space refl) (and_from _ _ (eq-eqb p.level p.level refl) (eq-eqb p.prefix p.prefix refl))
 
 module _ (old new : Seeds) (c : Place) (more : new.listed.items ≡ old.listed.items ++ c ∷ []) where

@@ -1,5 +1,5 @@
 -- What a pass of the plan with a list of positions has that takes row 1, sows below it and gives it back.
-use Rattle.std.proofs.Common.{◌≡◌, ℕ, ◌+◌, ◌-◌, ◌≤◌, ⊎_elim, cond, Bool, true, false, List, [], ◌∷◌, ◌++◌, map, length, sym, refl, ap, ◌∙◌, subst, inl, arith, Option, Some, None}
+use Rattle.std.proofs.Common.{◌≡◌, ℕ, ◌-◌, ⊎_elim, cond, Bool, true, false, List, [], ◌∷◌, ◌++◌, map, length, sym, refl, ap, ◌∙◌, subst, inl, arith, Option, Some, None}
 use Rattle.std.specs.List.{Contains, list_any, range_with_len}
 use mathlib.Core.Option.{some}
 use lib.ListN.{get_elem?}
@@ -24,7 +24,7 @@ use Rattle.row_table.specs.Looks.{looked_at, Reads}
 use Rattle.row_table.specs.Close.{IsIdle}
 use Rattle.row_table.specs.Start.{MayStart}
 use Rattle.row_table.specs.declared.sowing.Seeds.{Seeds}
-use Rattle.row_table.specs.Sown.{same_place, sown, View, HoldsAlone, MaySow, KeepsRow, Sows, bed, HasRoot}
+use Rattle.row_table.specs.Sown.{same_place, sown, View, HoldsAlone, KeepsRow, Sows, bed, HasRoot}
 use Rattle.row_table.proofs.Views.{in_head}
 use Rattle.row_table.proofs.Grafts.{root_link, root_is_link}
 use Rattle.row_table.proofs.SownSteps.{empty_map}

@@ -1,5 +1,5 @@
 -- What a pass of the plan with a list of positions may give, and what it has after each call of a sowing.
-use Rattle.std.proofs.Common.{◌≡◌, ◌≢◌, ℕ, ◌+◌, ◌*◌, ◌^◌, ◌<◌, ◌≤◌, ◌⊎◌, eqb, cond, not, Bool, true, false, List, [], ◌∷◌, ◌++◌, map, length, get_or, set, inl, inr, sym, refl, ap, ◌∙◌, subst, ⊎_elim, arith, eq-eqb, ne_eqb, get_or-set_same, append-nil, Option, Some, None, MatchOption}
+use Rattle.std.proofs.Common.{◌≡◌, ◌≢◌, ℕ, ◌<◌, ◌≤◌, ◌⊎◌, eqb, cond, not, Bool, true, false, List, [], ◌∷◌, ◌++◌, map, length, set, inr, sym, refl, ap, ◌∙◌, subst, ⊎_elim, arith, eq-eqb, ne_eqb, append-nil, Option, Some, None, MatchOption}
 use Rattle.std.specs.List.{Contains, filter, AllByRecursion}
 use Rattle.std.proofs.lemmas.Bool.{cases_lt}
 use mathlib.Core.Logic.{dite}
@@ -14,14 +14,14 @@ use Rattle.walk_core.specs.Words.{is_link, link_row, link_generation, link_word}
 use Rattle.walk_core.specs.Lists.{times, Has, without, minus, among}
 use Rattle.walk_core.specs.Events.{newly_granted, granted_after_part, granted_after_entry}
 use Rattle.walk_core.specs.Guards.{put_rows, MayPut}
-use Rattle.walk_core.proofs.RowLists.{times-nil, times-cons_same, times-cons_other, times-append, times_one_same, times_one_other, times_minus_other, among_true}
+use Rattle.walk_core.proofs.RowLists.{times-nil, times-append, times_one_same, times_one_other, times_minus_other, among_true}
 use Rattle.walk_core.proofs.Spellings.{link_row-link_word, link_generation-link_word, is_link-link_word}
 use Rattle.row_layout.specs.declared.places.Layout.{Layout}
 use Rattle.row_table.specs.declared.view.HeldRow.{HeldRow}
 use Rattle.row_table.specs.declared.view.HandRow.{HandRow}
 use Rattle.row_table.specs.declared.sowing.Seeds.{Seeds}
 use Rattle.row_table.specs.Rule.{levels_of, hand_part, unmoved}
-use Rattle.row_table.specs.Vacant.{all_entries, blank_words, vacant_entries}
+use Rattle.row_table.specs.Vacant.{all_entries, vacant_entries}
 use Rattle.row_table.specs.Moves.{released, Fits, NotInHand}
 use Rattle.row_table.specs.Books.{given, hand_rows, swept_rows, taken_rows, put_list, book_core, turned, waited, Learns, Gives, MayGive}
 use Rattle.row_table.specs.Openings.{with_place, with_number, opened_row, prepared, opened, MaySetUp, IsSetUp}
@@ -94,7 +94,7 @@ module _ (k : Layout) (v : View) (old new : Seeds) (place : Place) (child genera
 
 -- What a pass has between the calls
 
-record Stage (v : View) (k : Layout) (stand : Option Stand) (rows : List (HeldRow Bool)) (held : List ℕ) (gs : List GrantedRow) (hand : List HandRow) (last : Option Seeds) : Type 0 where
+pub record Stage (v : View) (k : Layout) (stand : Option Stand) (rows : List (HeldRow Bool)) (held : List ℕ) (gs : List GrantedRow) (hand : List HandRow) (last : Option Seeds) : Type 0 where
   pub layout : v.layout ≡ k
   pub stand_is : v.core.stand ≡ stand
   pub rows_are : v.rows ≡ rows
@@ -110,7 +110,7 @@ empty_map f [] e = refl
 empty_map f (x ∷ xs) e = let long = ap length e in absurd (omega arith)
 
 -- after a give
-gave_stage : (v0 v1 v2 : View) (book new : Seeds) (h : HeldRow Bool) (ts : List ℕ) (rows : ℕ) → HoldsAlone v0 h → Learns sown rows v0 book → v1 ≡ turned sown v0 book → (g : Gives sown v1 new v2) → taken_rows sown g.old new ≡ ts
+pub gave_stage : (v0 v1 v2 : View) (book new : Seeds) (h : HeldRow Bool) (ts : List ℕ) (rows : ℕ) → HoldsAlone v0 h → Learns sown rows v0 book → v1 ≡ turned sown v0 book → (g : Gives sown v1 new v2) → taken_rows sown g.old new ≡ ts
     → Stage v2 v0.layout v0.core.stand (given h ∷ []) (h.row ∷ []) (map newly_granted ts) (hand_rows sown g.grants.generation g.old new ts) (Some new)
 gave_stage v0 v1 v2 book new h ts rows alone learns e1 g taken = record {
   layout = ap (λ (v : View). v.layout) g.after ∙ ap (λ (v : View). v.layout) e1;
@@ -124,7 +124,7 @@ gave_stage v0 v1 v2 book new h ts rows alone learns e1 g taken = record {
   has_not = ap (λ (v : View). v.core.has_book) g.after;
 }
 
-old_is : (v0 v1 v2 : View) (book new : Seeds) → v1 ≡ turned sown v0 book → (g : Gives sown v1 new v2) → g.old ≡ book
+pub old_is : (v0 v1 v2 : View) (book new : Seeds) → v1 ≡ turned sown v0 book → (g : Gives sown v1 new v2) → g.old ≡ book
 old_is v0 v1 v2 book new e g = let is : Some g.old ≡ Some book = sym g.found ∙ ap (λ (v : View). v.found) e in cc
 
 -- Nothing was drawn
@@ -166,7 +166,7 @@ kept_waiting v0 w h n alone e = record {
 }
 
 -- a pass with this row alone that gave a book which lists the row's position as the one before
-keeps_after : (v0 w : View) (h y : HeldRow Bool) (book new : Seeds) (rows : ℕ) → HoldsAlone v0 h → Learns sown rows v0 book → Stage w v0.layout v0.core.stand (y ∷ []) (h.row ∷ []) [] [] (Some new)
+pub keeps_after : (v0 w : View) (h y : HeldRow Bool) (book new : Seeds) (rows : ℕ) → HoldsAlone v0 h → Learns sown rows v0 book → Stage w v0.layout v0.core.stand (y ∷ []) (h.row ∷ []) [] [] (Some new)
     → y.row ≡ h.row → y.place ≡ h.place → y.is_given ≡ true → lists new h.place ≡ lists book h.place → KeepsRow v0 h y.words w
 keeps_after v0 w h y book new rows alone learns s row place is_given listed = record {
   after = y;

@@ -24,7 +24,7 @@ use Rattle.row_table.proofs.Beside.{has_part}
 
 -- Lists
 
-filter_all : {X : Type 0} (t : X → Bool) (xs : List X) → ((x : X) → Contains xs x → t x ≡ true) → filter t xs ≡ xs
+pub filter_all : {X : Type 0} (t : X → Bool) (xs : List X) → ((x : X) → Contains xs x → t x ≡ true) → filter t xs ≡ xs
 filter_all t [] all = refl
 filter_all t (x ∷ xs) all = ap (λ (b : Bool). cond b (x ∷ filter t xs) (filter t xs)) (all x (in_head x xs)) ∙ ap (λ l. x ∷ l) (filter_all t xs (λ y i. all y (in_tail x xs y i)))
 
@@ -32,7 +32,7 @@ pub filter_none : {X : Type 0} (t : X → Bool) (xs : List X) → ((x : X) → C
 filter_none t [] none = refl
 filter_none t (x ∷ xs) none = ap (λ (b : Bool). cond b (x ∷ filter t xs) (filter t xs)) (none x (in_head x xs)) ∙ filter_none t xs (λ y i. none y (in_tail x xs y i))
 
-minus_has : (ts xs : List ℕ) (r : ℕ) → Has (minus ts xs) r → Has xs r
+pub minus_has : (ts xs : List ℕ) (r : ℕ) → Has (minus ts xs) r → Has xs r
 minus_has ts xs r has = dite (ℕ_discrete (times r ts) 0)
     (λ z. let same = times_minus_other ts xs r z in omega arith)
     (λ nz. let zero = times_minus_same ts xs r (omega arith) in absurd (omega arith))

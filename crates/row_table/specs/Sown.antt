@@ -5,8 +5,9 @@
 --     MaySow      a new row may be linked at an entry of the only row that the pass holds, at this position
 --     bed, HasRoot      the position below entry 5 of the root of space 0, and what a pass has that may sow there
 --     SameSeeds, Draws      a book that is as it was, and one from which a row and a generation were taken and that lists one position more
---     KeepsRow, Sows      the pass still holds the row, and what a sowing does
-use Rattle.std.specs.Prelude.{◌≡◌, ℕ, ◌+◌, ◌^◌, ◌<◌, ◌≤◌, ⊤, Bool, true, false, ◌&&◌, List, [], ◌∷◌, ◌++◌, length, slice_index, slice_set, nat_eq, Option, None, Some}
+--     KeepsRow, IsSown, Sows      the pass still holds the row, a new row is linked, and what a sowing does
+--     MaySowBoth, DrawsBoth, AreSown, SowsBoth      the same of two rows at once
+use Rattle.std.specs.Prelude.{◌≡◌, ◌≢◌, ℕ, ◌+◌, ◌^◌, ◌<◌, ◌≤◌, ⊤, Bool, true, false, ◌&&◌, List, [], ◌∷◌, ◌++◌, length, slice_index, slice_set, nat_eq, Option, None, Some}
 use Rattle.std.specs.List.{list_any}
 use Rattle.std.proofs.Common.{sym, refl, inl, ◌∙◌}
 use Rattle.table_place.specs.declared.Place.{Place}
@@ -15,6 +16,7 @@ use Rattle.walk_core.specs.Words.{is_link, link_row}
 use Rattle.row_table.specs.declared.view.PassView.{PassView}
 use Rattle.row_table.specs.declared.view.HeldRow.{HeldRow}
 use Rattle.row_table.specs.declared.sowing.Seeds.{Seeds}
+use Rattle.row_table.specs.declared.sowing.Bed.{Bed}
 use Rattle.row_table.specs.Plan.{Region, IsUntouched, Meaning, IsLawful}
 use Rattle.row_table.specs.Rule.{levels_of}
 use Rattle.row_table.specs.Moves.{Fits}
@@ -127,3 +129,41 @@ pub record IsSown (v : View) (h : HeldRow Bool) (index : ℕ) (place : Place) (c
 abbrev pub Sows : (v : View) (row index : ℕ) → Place → Option ℕ → View → Type 0
 Sows v row index place None w = (may : MaySow v row index place) → KeepsRow v may.known may.known.words w
 Sows v row index place (Some child) w = (may : MaySow v row index place) → IsSown v may.known index place child w
+
+-- Two rows at once
+
+-- two entries of the only row are no links, and tables at these positions may be put there
+pub record MaySowBoth (v : View) (row : ℕ) (first second : Bed) : Type 0 where
+  pub one : MaySow v row first.index first.place
+  pub inside : second.index < 512
+  pub no_link : is_link (slice_index one.known.words second.index) ≡ false
+  pub below : second.place ≡ entry_place (levels_of v.layout) one.known.place second.index
+  pub is_place : is_place (levels_of v.layout) second.place ≡ true
+  pub apart : first.index ≢ second.index
+
+pub record DrawsBoth (old : Seeds) (first second : Place) (a b : ℕ × ℕ) (new : Seeds) : Type 0 where
+  pub free : old.free.items ≡ new.free.items ++ b.0 ∷ a.0 ∷ []
+  pub limbo : new.limbo.items ≡ old.limbo.items
+  pub number : a.1 ≡ old.next
+  pub number_after : b.1 ≡ old.next + 1
+  pub next : new.next ≡ old.next + 2
+  pub listed : new.listed.items ≡ old.listed.items ++ first ∷ second ∷ []
+  pub few : b.1 < 2 ^ 30
+
+-- the entries link the new rows, and the book lists their positions
+pub record AreSown (v : View) (h : HeldRow Bool) (first second : Bed) (a b : ℕ) (w : View) : Type 0 where
+  pub one : ℕ
+  pub link : is_link one ≡ true
+  pub to_row : link_row one ≡ a
+  pub two : ℕ
+  pub link_after : is_link two ≡ true
+  pub to_row_after : link_row two ≡ b
+  pub keeps : KeepsRow v h (slice_set (slice_set h.words first.index one) second.index two) w
+  pub book : Seeds
+  pub last : w.last ≡ Some book
+  pub listed : lists book first.place ≡ true
+  pub listed_after : lists book second.place ≡ true
+
+abbrev pub SowsBoth : (v : View) (row : ℕ) → Bed → Bed → Option (ℕ × ℕ) → View → Type 0
+SowsBoth v row first second None w = (may : MaySowBoth v row first second) → KeepsRow v may.one.known may.one.known.words w
+SowsBoth v row first second (Some r) w = (may : MaySowBoth v row first second) → AreSown v may.one.known first second r.0 r.1 w
