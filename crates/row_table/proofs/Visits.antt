@@ -10,6 +10,7 @@ use Rattle.walk_core.specs.Lists.{times, Has, without}
 use Rattle.walk_core.specs.Events.{top, stand_after_look}
 use Rattle.walk_core.proofs.RowLists.{times-nil}
 use Rattle.row_table.specs.declared.view.PassView.{PassView}
+use Rattle.row_table.specs.declared.view.HeldRow.{HeldRow}
 use Rattle.row_table.specs.Plan.{Meaning}
 use Rattle.row_table.specs.Rule.{levels_of}
 use Rattle.row_layout.specs.declared.places.Layout.{Layout}
@@ -43,27 +44,14 @@ module _ {R B E : Type 0} where
     pub generation : ℕ
     pub words : List ℕ
     pub row_there : Contains v.rows (grabbed row place generation words x)
-    pub held : v.core.held ≡ row ∷ []
+
+  pub got_it : (v u : PassView R B E) (row : ℕ) (place : Place) (generation : ℕ) (words : List ℕ) (x : R) → u ≡ got v row place generation words x → HasGot u row x
+  got_it v u row place generation words x e = subst (λ (y : PassView R B E). HasGot y row x) (sym e) (record { place = place; generation = generation; words = words; row_there = last_row v row place generation words x })
 
   -- and left
-  pub has_got : (v u w : PassView R B E) (row : ℕ) (place : Place) (generation : ℕ) (words : List ℕ) (x : R) → IsStanding v row → u ≡ got v row place generation words x → w ≡ left u → HasGot w row x
-  has_got v u w row place generation words x s e f = subst (λ (y : PassView R B E). HasGot y row x) (sym (f ∙ ap left e)) (record {
-    place = place;
-    generation = generation;
-    words = words;
-    row_there = last_row v row place generation words x;
-    held = ap (λ (l : List ℕ). l ++ row ∷ []) s.held;
-  })
-
-  -- and stayed
-  pub got_it : (v u : PassView R B E) (row : ℕ) (place : Place) (generation : ℕ) (words : List ℕ) (x : R) → IsStanding v row → u ≡ got v row place generation words x → HasGot u row x
-  got_it v u row place generation words x s e = subst (λ (y : PassView R B E). HasGot y row x) (sym e) (record {
-    place = place;
-    generation = generation;
-    words = words;
-    row_there = last_row v row place generation words x;
-    held = ap (λ (l : List ℕ). l ++ row ∷ []) s.held;
-  })
+  pub has_got : (v u w : PassView R B E) (row : ℕ) (place : Place) (generation : ℕ) (words : List ℕ) (x : R) → u ≡ got v row place generation words x → w ≡ left u → HasGot w row x
+  has_got v u w row place generation words x e f = let g = got_it v u row place generation words x e in
+      record { place = g.place; generation = g.generation; words = g.words; row_there = subst (λ (l : List (HeldRow R)). Contains l (grabbed row g.place g.generation g.words x)) (sym (ap (λ (y : PassView R B E). y.rows) f)) g.row_there }
 
   pub fits_it : (M : Meaning R B E) {v : PassView R B E} {row : ℕ} {x : R} → HasGot v row x → Fits M v row x
   fits_it M {v} {row} {x} g = record { known = grabbed row g.place g.generation g.words x; held = g.row_there; same_row = refl; content_fits = inl (refl, refl, refl) }

@@ -4,7 +4,7 @@ use Rattle.row_table.proofs.uses.peek.Goals as goal
 
 pub release-requires-clause-fits : goal.release-requires-clause-fits
 release-requires-clause-fits c κs = let t = c.in-Got.ensures.grabs in
-    fits_it tally (got_it _ _ c.args.row t.0.place t.0.generation t.0.words c.in-Got.found c.requires.stands t.2)
+    fits_it tally (got_it _ _ c.args.row t.0.place t.0.generation t.0.words c.in-Got.found t.2)
 
 pub returns-in-Got-clause-stands : goal.returns-in-Got-clause-stands
 returns-in-Got-clause-stands c = let t = c.in-Got.ensures.grabs in

@@ -4,7 +4,7 @@ use Rattle.row_table.proofs.uses.touch.Goals as goal
 
 pub release-requires-clause-fits : goal.release-requires-clause-fits
 release-requires-clause-fits g c κs within = let t = c.in-Got.ensures.grabs in
-    fits_it g.P.Plan.meaning (has_got _ _ _ c.args.row t.0.place t.0.generation t.0.words c.in-Got.content c.requires.stands t.2 c.leave.ensures.leaves)
+    fits_it g.P.Plan.meaning (has_got _ _ _ c.args.row t.0.place t.0.generation t.0.words c.in-Got.content t.2 c.leave.ensures.leaves)
 
 pub returns-in-Held-clause-other : goal.returns-in-Held-clause-other
 returns-in-Held-clause-other g c = λ s e z. let same : c.in-Held.holder ≡ s = cc in another c.requires.stands c.in-Held.ensures.grabs.3 (same ∙ z)
