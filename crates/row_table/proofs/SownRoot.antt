@@ -24,7 +24,7 @@ use Rattle.row_table.specs.Looks.{looked_at, Reads}
 use Rattle.row_table.specs.Close.{IsIdle}
 use Rattle.row_table.specs.Start.{MayStart}
 use Rattle.row_table.specs.declared.sowing.Seeds.{Seeds}
-use Rattle.row_table.specs.Sown.{same_place, sown, View, HoldsAlone, KeepsRow, Sows, bed, HasRoot}
+use Rattle.row_table.specs.Sown.{same_place, sown, View, HoldsAlone, KeepsRow, Sows, MaySowBoth, SowsBoth, bed, next_bed, HasRoot, HasBeds}
 use Rattle.row_table.proofs.Views.{in_head}
 use Rattle.row_table.proofs.Grafts.{root_link, root_is_link}
 use Rattle.row_table.proofs.SownSteps.{empty_map}
@@ -45,6 +45,14 @@ holds_it v2 v3 v4 f x e3 e4 = let same = ap (times 1) (ap (λ (v : View). v.core
 bed_below : (k : Layout) → bed ≡ entry_place (levels_of k) (entry_place (levels_of k) directory 0) 5
 unfolding levels_of
 bed_below k = refl
+
+pub next_below : (k : Layout) → next_bed ≡ entry_place (levels_of k) (entry_place (levels_of k) directory 0) 6
+unfolding levels_of
+next_below k = refl
+
+pub next_is_place : (k : Layout) → is_place (levels_of k) next_bed ≡ true
+unfolding levels_of
+next_is_place k = refl
 
 bed_is_place : (k : Layout) → is_place (levels_of k) bed ≡ true
 unfolding levels_of
@@ -77,37 +85,76 @@ took v0 v1 v2 v3 v4 v5 n m x p idle right e1 e2 is f e3 e4 r e5 z =
         below = bed_below v5.layout ∙ ap (λ (q : Place). entry_place (levels_of v5.layout) q 5) (sym at);
         is_place = bed_is_place v5.layout;
       };
+      place = at;
       fits = record { known = g; held = subst (λ (l : List (HeldRow Bool)). Contains l g) (sym rows5) (in_head g []); same_row = refl; content_fits = inl (refl, refl, refl) };
       outside = ap (λ (v : View). v.core.stand) e5 ∙ ap (stand_after_look (levels_of v4.layout) 1 5 m) (ap (λ (v : View). v.core.stand) e4);
     }
 
+-- a look at the entry 6
+pub looked_on : (v w : View) (x : Bool) (m : ℕ) → HasRoot v x → (r : Reads v 1 6 m) → w ≡ looked_at v 1 r.place 6 m → m ≡ 0 → HasBeds w x
+looked_on v w x m root r e z = subst (λ (u : View). HasBeds u x) (sym e) (record {
+  root = record {
+    may = record {
+      known = root.may.known;
+      alone = record { rows = root.may.alone.rows; held = root.may.alone.held; granted = root.may.alone.granted; unlinked = root.may.alone.unlinked; has_not = root.may.alone.has_not };
+      same_row = root.may.same_row;
+      inside = root.may.inside;
+      long = root.may.long;
+      no_link = root.may.no_link;
+      below = root.may.below;
+      is_place = root.may.is_place;
+    };
+    place = root.place;
+    fits = record { known = root.fits.known; held = root.fits.held; same_row = root.fits.same_row; content_fits = root.fits.content_fits };
+    outside = ap (stand_after_look (levels_of v.layout) 1 6 m) root.outside;
+  };
+  next_free = ap is_link (sym (r.holds root.may.known (subst (λ (l : List (HeldRow Bool)). Contains l root.may.known) (sym root.may.alone.rows) (in_head root.may.known [])) root.may.same_row) ∙ z) ∙ zero_no_link;
+})
+
 -- It gives row 1 back, whether it has sown or not
 
-record StillHas (w : View) (content : Bool) : Type 0 where
+pub record StillHas (w : View) (content : Bool) : Type 0 where
   pub after : HeldRow Bool
   pub alone : HoldsAlone w after
   pub same_row : after.row ≡ 1
   pub fits : Fits sown w 1 content
   pub outside : w.core.stand ≡ None
 
-still_has : (v w : View) (x : Bool) (o : Option ℕ) → HasRoot v x → Sows v 1 5 bed o w → StillHas w x
-still_has v w x o root sows = record { after = keeps.after; alone = keeps.alone; same_row = keeps.same_row ∙ root.may.same_row; fits = subst (λ (r : ℕ). Fits sown w r x) root.may.same_row (keeps.fits x (subst (λ (r : ℕ). Fits sown v r x) (sym root.may.same_row) root.fits)); outside = keeps.stand ∙ root.outside }
-  where
-    words_of : (p : Option ℕ) → Sows v 1 5 bed p w → (words : List ℕ) × KeepsRow v root.may.known words w
-    words_of None s = (root.may.known.words, s root.may)
-    words_of (Some child) s = (_, (s root.may).keeps)
+still_has : (v w : View) (x : Bool) (words : List ℕ) (root : HasRoot v x) → KeepsRow v root.may.known words w → StillHas w x
+still_has v w x words root keeps = record {
+  after = keeps.after;
+  alone = keeps.alone;
+  same_row = keeps.same_row ∙ root.may.same_row;
+  fits = subst (λ (r : ℕ). Fits sown w r x) root.may.same_row (keeps.fits x (subst (λ (r : ℕ). Fits sown v r x) (sym root.may.same_row) root.fits));
+  outside = keeps.stand ∙ root.outside;
+}
 
-    keeps : KeepsRow v root.may.known (words_of o sows).0 w
-    keeps = (words_of o sows).1
+pub after_one : (v w : View) (x : Bool) (o : Option ℕ) → HasRoot v x → Sows v 1 5 bed o w → StillHas w x
+after_one v w x None root sows = still_has v w x root.may.known.words root (sows root.may)
+after_one v w x (Some child) root sows = still_has v w x _ root (sows root.may).keeps
 
-pub may_give_back_root : (v w : View) (x : Bool) (o : Option ℕ) → HasRoot v x → Sows v 1 5 bed o w → NotInHand w 1 × Fits sown w 1 x
-may_give_back_root v w x o root sows = let s = still_has v w x o root sows in (
+abbrev pub may_both : (v : View) (x : Bool) → HasBeds v x → MaySowBoth v 1 (record { index = 5; place = bed }) (record { index = 6; place = next_bed })
+may_both v x beds = record {
+  one = beds.root.may;
+  inside = omega arith;
+  no_link = beds.next_free;
+  below = next_below v.layout ∙ ap (λ (q : Place). entry_place (levels_of v.layout) q 6) (sym beds.root.place);
+  is_place = next_is_place v.layout;
+  apart = λ e. omega arith;
+}
+
+pub after_both : (v w : View) (x : Bool) (o : Option (ℕ × ℕ)) → HasBeds v x → SowsBoth v 1 (record { index = 5; place = bed }) (record { index = 6; place = next_bed }) o w → StillHas w x
+after_both v w x None beds sows = still_has v w x beds.root.may.known.words beds.root (sows (may_both v x beds))
+after_both v w x (Some r) beds sows = still_has v w x _ beds.root (sows (may_both v x beds)).keeps
+
+pub may_give_back_root : (w : View) (x : Bool) → StillHas w x → NotInHand w 1 × Fits sown w 1 x
+may_give_back_root w x s = (
   (let a = ap (λ (gs : List GrantedRow). times 1 (map (λ (g : GrantedRow). g.row) gs)) s.alone.granted in let b = ap (λ us. times 1 (map (λ u. u.row) us)) s.alone.unlinked in let n = times-nil 1 in omega arith),
   s.fits,
 )
 
-pub idle_again : (v w u : View) (x : Bool) (o : Option ℕ) → HasRoot v x → Sows v 1 5 bed o w → u ≡ released w 1 → IsIdle u
-idle_again v w u x o root sows e = let s = still_has v w x o root sows in record {
+pub idle_again : (w u : View) (x : Bool) → StillHas w x → u ≡ released w 1 → IsIdle u
+idle_again w u x s e = record {
   outside = ap (λ (y : View). y.core.stand) e ∙ s.outside;
   held = ap (λ (y : View). y.core.held) e ∙ ap (without 1) (s.alone.held ∙ ap (λ (r : ℕ). r ∷ []) s.same_row);
   granted = ap (λ (y : View). y.core.granted) e ∙ s.alone.granted;

@@ -3,7 +3,7 @@
 --     sown, lawful      the plan and its laws
 --     View, HoldsAlone      what a pass knows, and one that holds this row and has nothing else
 --     MaySow      a new row may be linked at an entry of the only row that the pass holds, at this position
---     bed, HasRoot      the position below entry 5 of the root of space 0, and what a pass has that may sow there
+--     bed, next_bed, HasRoot, HasBeds      the positions below entries 5 and 6 of the root of space 0, and what a pass has that may sow there
 --     SameSeeds, Draws      a book that is as it was, and one from which a row and a generation were taken and that lists one position more
 --     KeepsRow, IsSown, Sows      the pass still holds the row, a new row is linked, and what a sowing does
 --     MaySowBoth, DrawsBoth, AreSown, SowsBoth      the same of two rows at once
@@ -11,7 +11,7 @@ use Rattle.std.specs.Prelude.{◌≡◌, ◌≢◌, ℕ, ◌+◌, ◌^◌, ◌<�
 use Rattle.std.specs.List.{list_any}
 use Rattle.std.proofs.Common.{sym, refl, inl, ◌∙◌}
 use Rattle.table_place.specs.declared.Place.{Place}
-use Rattle.table_place.specs.Place.{entry_place, is_place}
+use Rattle.table_place.specs.Place.{directory, entry_place, is_place}
 use Rattle.walk_core.specs.Words.{is_link, link_row}
 use Rattle.row_table.specs.declared.view.PassView.{PassView}
 use Rattle.row_table.specs.declared.view.HeldRow.{HeldRow}
@@ -83,11 +83,20 @@ pub record MaySow (v : View) (row index : ℕ) (place : Place) : Type 0 where
 abbrev pub bed : Place
 bed = record { space = 0; level = 3; prefix = 5 }
 
+abbrev pub next_bed : Place
+next_bed = record { space = 0; level = 3; prefix = 6 }
+
 -- It holds row 1 alone, is outside, may sow at the entry 5, and may give the row back with this content.
 pub record HasRoot (v : View) (content : Bool) : Type 0 where
   pub may : MaySow v 1 5 bed
+  pub place : may.known.place ≡ entry_place (levels_of v.layout) directory 0
   pub fits : Fits sown v 1 content
   pub outside : v.core.stand ≡ None
+
+-- and the entry 6 is no link
+pub record HasBeds (v : View) (content : Bool) : Type 0 where
+  pub root : HasRoot v content
+  pub next_free : is_link (slice_index root.may.known.words 6) ≡ false
 
 -- What it does
 

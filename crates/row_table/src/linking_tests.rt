@@ -290,7 +290,10 @@ fn a_row_is_linked_and_unlinked_while_another_pass_descends(rt: HostRuntime) -> 
     assert_eq!(rt; parts.epochs.as_slice(), [2, 2000].as_slice());
     assert!(rt; locks_are_right(words));
     // Row 1's entry 5, and its position: level 4 of space 0.
-    assert_eq!(rt; (words.get(515 + 5), words.get(515 + 513)), (Some(&0), Some(&4)));
+    assert_eq!(rt;
+        (words.get(515 + 5), words.get(515 + 513)),
+        (Some(&0), Some(&4))
+    );
     Ok(())
 }
 

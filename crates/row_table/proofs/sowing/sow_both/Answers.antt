@@ -25,12 +25,13 @@ set_up-requires-clause-guard c κs = let t = c.in-Got.ensures.turns in
 pub set_up-requires-2-clause-guard : goal.set_up-requires-2-clause-guard
 set_up-requires-2-clause-guard c κs = let t = c.in-Got.ensures.turns in let v = view_of c.set_up.new.self in
     may_prepare_a _ _ _ _ _ _ c.args.first c.args.second c.in-Some.one c.in-Some.two _ c.requires.may t.0 c.layout.ensures.sizes.1 t.1 c.in-Some.ensures c.give.ensures.gives _ (Rattle.row_table.specs.Openings.prepared v c.in-Some.one.0 c.args.first.place c.in-Some.one.1)
-        c.set_up.ensures.sets_up refl
+    c.set_up.ensures.sets_up refl
 
 pub link_word-word-requires : goal.link_word-word-requires
-link_word-word-requires c = let t = c.in-Got.ensures.turns in let v = view_of c.turn.new.self in
-    (small_a _ v v _ _ _ c.args.first c.args.second c.in-Some.one c.in-Some.two _ c.requires.may t.0 c.layout.ensures.sizes.1 t.1 c.in-Some.ensures,
-    few_a _ v v _ _ _ c.args.first c.args.second c.in-Some.one c.in-Some.two _ c.requires.may t.0 c.layout.ensures.sizes.1 t.1 c.in-Some.ensures)
+link_word-word-requires c = let t = c.in-Got.ensures.turns in let v = view_of c.turn.new.self in (
+  small_a _ v v _ _ _ c.args.first c.args.second c.in-Some.one c.in-Some.two _ c.requires.may t.0 c.layout.ensures.sizes.1 t.1 c.in-Some.ensures,
+  few_a _ v v _ _ _ c.args.first c.args.second c.in-Some.one c.in-Some.two _ c.requires.may t.0 c.layout.ensures.sizes.1 t.1 c.in-Some.ensures,
+)
 
 pub set_entry-requires-clause-guard : goal.set_entry-requires-clause-guard
 set_entry-requires-clause-guard c κs = let t = c.in-Got.ensures.turns in let o = c.open_row.ensures.opens in let v = view_of c.open_row.new.self in
