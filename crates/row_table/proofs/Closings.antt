@@ -1,5 +1,5 @@
 -- What a caller of a closed table knows of its journal, from the public clauses alone.
-use Rattle.std.proofs.Common.{◌≡◌, ℕ, List, map, subst}
+use Rattle.std.proofs.Common.{ℕ, List, map}
 use Rattle.std.specs.List.{All, Contains}
 use Rattle.std.proofs.lemmas.List.Elements.{All-contains_itself, All-weaker}
 use Rattle.row_layout.specs.declared.places.Layout.{Layout}

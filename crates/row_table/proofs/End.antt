@@ -16,7 +16,7 @@ use Rattle.walk_core.specs.Words.{epoch_at, book_at, stale}
 use Rattle.walk_core.specs.Lists.{times, Has}
 use Rattle.walk_core.specs.declared.pass.GrantedRow.{GrantedRow}
 use Rattle.walk_core.specs.declared.pass.UnlinkedRow.{UnlinkedRow}
-use Rattle.walk_core.specs.Core.{Core, word, place_in, pass_at, idle, times_in_hand, times_out, IsLinked}
+use Rattle.walk_core.specs.Core.{Core, word, pass_at, idle, times_in_hand, times_out, IsLinked}
 use Rattle.walk_core.specs.Good.{Good, LockSays, says_free, says_held, says_stale}
 use Rattle.walk_core.proofs.RowLists.{times-nil, times-cons_other}
 use Rattle.walk_core.proofs.Facts.{out-le-one}

@@ -1,5 +1,5 @@
 -- What the words show of the rows that passes hold.
-use Rattle.std.proofs.Common.{◌≡◌, ℕ}
+use Rattle.std.proofs.Common.{◌≡◌}
 use mathlib.Core.Option.{some}
 use lib.ListN.{get_elem?}
 use Rattle.row_layout.specs.declared.places.Layout.{Layout}

@@ -1,8 +1,8 @@
 -- The rows that links reach from row 0 are the linked ones of a good core, and make one tree.
-use Rattle.std.proofs.Common.{◌≡◌, ◌≢◌, ℕ, zero, suc, ◌+◌, ◌<◌, ◌≤◌, true, get_or, sym, ap, ◌∙◌, subst, arith}
+use Rattle.std.proofs.Common.{◌≡◌, ◌≢◌, ℕ, zero, suc, ◌+◌, ◌<◌, ◌≤◌, true, sym, ap, ◌∙◌, subst, arith}
 use mathlib.Core.Logic.{dite}
 use native.Mathlib.Decide.{ℕ_discrete}
-use Rattle.walk_core.specs.Words.{entry_at, is_link, link_row, link_generation}
+use Rattle.walk_core.specs.Words.{entry_at, is_link, link_row}
 use Rattle.walk_core.specs.Core.{Core, word, place_in, generation_in, IsLinked}
 use Rattle.walk_core.specs.Good.{Good}
 use Rattle.walk_core.proofs.Tree.{names_linked, linker_linked}

@@ -1,8 +1,6 @@
-use Rattle.std.proofs.Common.{◌≡◌, ◌+◌, ap, arith}
-use Rattle.walk_core.specs.Events.{top}
+use Rattle.std.proofs.Common.{ap, arith}
 use Rattle.row_table.specs.declared.view.PassView.{PassView}
 use Rattle.row_table.specs.Passes.{view_of}
-use Rattle.row_table.specs.Uses.{WentDown}
 use Rattle.row_table.proofs.Visits.{stands_on, stands_at_top, looked_in}
 use Rattle.row_table.proofs.uses.look_in.Goals as goal
 
