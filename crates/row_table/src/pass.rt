@@ -1,7 +1,6 @@
 //! The steps of a pass.
 ghost use Rattle.std.specs.Prelude.{◌≡◌, ℕ, ◌+◌, ◌<◌, ◌≤◌, true, false, length, Some, None, IsSome};
 ghost use Rattle.std.specs.VecDeque.{deque_capacity};
-ghost use Rattle.walk_core.specs.Lists.{Has};
 ghost use Rattle.row_table.specs.Rule.{view, IsOne, SameRows};
 ghost use Rattle.row_table.specs.Known.{IsSized};
 ghost use Rattle.row_table.specs.Moves.{MayGrab, NotInHand, Fits, released};
