@@ -1,5 +1,5 @@
 -- What a pass of the plan with a list of positions may give that takes two rows, and what it has after each call of a sowing of both.
-use Rattle.std.proofs.Common.{◌≡◌, ◌≢◌, ℕ, ◌+◌, ◌*◌, ◌^◌, ◌<◌, ◌≤◌, ◌⊎◌, ◌||◌, eqb, cond, not, Bool, true, false, List, [], ◌∷◌, ◌++◌, map, length, get_or, set, inl, inr, sym, refl, ap, ◌∙◌, subst, ⊎_elim, arith, eq-eqb, ne_eqb, get_or-set_other, append-nil, Option, Some, None, MatchOption}
+use Rattle.std.proofs.Common.{◌≡◌, ◌≢◌, ℕ, ◌+◌, ◌^◌, ◌<◌, ◌≤◌, ◌||◌, eqb, cond, not, Bool, true, false, List, [], ◌∷◌, ◌++◌, map, get_or, set, inr, sym, refl, ap, ◌∙◌, subst, ⊎_elim, arith, eq-eqb, ne_eqb, get_or-set_other, append-nil, Option, Some, None, MatchOption}
 use Rattle.std.specs.List.{Contains, filter, AllByRecursion, find, list_any}
 use Rattle.std.proofs.lemmas.Bool.{cases_lt, cases_Bool}
 use Rattle.std.proofs.lemmas.List.Folds.{list_any-append}
@@ -17,7 +17,7 @@ use Rattle.walk_core.specs.Words.{is_link, link_row, link_generation, link_word}
 use Rattle.walk_core.specs.Lists.{times, Has, without, minus, among}
 use Rattle.walk_core.specs.Events.{newly_granted, granted_after_part, granted_after_entry, with_part}
 use Rattle.walk_core.specs.Guards.{put_rows, MayPut}
-use Rattle.walk_core.proofs.RowLists.{times-nil, times-cons, times-cons_same, times-cons_other, times-append, times_one_same, times_one_other, times_minus_same, times_minus_other, times_dropped, times_without_other, among_true, among_false}
+use Rattle.walk_core.proofs.RowLists.{times-nil, times-cons_same, times-cons_other, times-append, times_one_same, times_one_other, times_minus_same, times_minus_other, times_dropped, times_without_other, among_true, among_false}
 use Rattle.walk_core.proofs.Spellings.{link_row-link_word, link_generation-link_word, is_link-link_word}
 use Rattle.row_layout.specs.declared.places.Layout.{Layout}
 use Rattle.row_table.specs.declared.view.HeldRow.{HeldRow}
@@ -28,17 +28,17 @@ use Rattle.row_table.specs.Plan.{IsUntouched}
 use Rattle.row_table.specs.Rule.{levels_of}
 use Rattle.row_table.specs.Vacant.{all_entries, vacant_entries}
 use Rattle.row_table.specs.Moves.{released, Fits, NotInHand}
-use Rattle.row_table.specs.Books.{given, region, hand_rows, swept_rows, taken_rows, put_list, book_core, turned, Learns, Gives, MayGive}
+use Rattle.row_table.specs.Books.{given, region, swept_rows, taken_rows, put_list, book_core, turned, Learns, Gives, MayGive}
 use Rattle.row_table.specs.Openings.{with_place, with_number, opened_row, prepared, opened, MaySetUp, MayOpen, IsSetUp}
 use Rattle.row_table.specs.Links.{with_word, newly_linked, with_link, link_set, word_set, MaySetEntry, Sets}
-use Rattle.row_table.specs.Sown.{sown, same_place, lists, View, HoldsAlone, MaySow, SameSeeds, KeepsRow, KeepsListed, MaySowBoth, DrawsBoth, AreSown}
+use Rattle.row_table.specs.Sown.{sown, same_place, lists, View, SameSeeds, KeepsListed, MaySowBoth, DrawsBoth, AreSown}
 use Rattle.row_table.proofs.Views.{in_head, in_tail}
 use Rattle.row_table.proofs.Turns.{has_contained}
 use Rattle.row_table.proofs.Beside.{has_part}
 use Rattle.row_table.proofs.Vacant.{is_vacant}
 use Rattle.row_table.proofs.Stock.{filter_all, filter_none, minus_none, minus_has, limbo_same, empty_journal}
 use Rattle.row_table.proofs.SownPlaces.{few_levels, Splits, splits, same_is, same_self, touched}
-use Rattle.row_table.proofs.SownSteps.{Stage, gave_stage, old_is, keeps_after, may_return, no_taken, lists_same}
+use Rattle.row_table.proofs.SownSteps.{Stage, gave_stage, old_is, keeps_after, may_return}
 
 -- A give that takes these rows of the end of the free ones
 

@@ -1,4 +1,4 @@
-use Rattle.std.proofs.Common.{◌≡◌, ap, refl}
+use Rattle.std.proofs.Common.{ap, refl}
 use Rattle.row_table.specs.Passes.{view_of}
 use Rattle.row_table.specs.Sown.{View}
 use Rattle.row_table.proofs.SownSteps.{kept_waiting, kept_undrawn}
