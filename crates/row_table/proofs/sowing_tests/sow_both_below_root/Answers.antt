@@ -3,7 +3,7 @@ use Rattle.row_table.proofs.SownRoot.{after_both, may_both, may_give_back_root, 
 use Rattle.row_table.proofs.sowing_tests.sow_both_below_root.Goals as goal
 
 pub sow_both-children-requires-clause-may : goal.sow_both-children-requires-clause-may
-sow_both-children-requires-clause-may c κs = may_both _ _ c.in_ok-pass.ensures.1
+sow_both-children-requires-clause-may c = may_both _ _ c.in_ok-pass.ensures.1
 
 pub release-requires-clause-linked : goal.release-requires-clause-linked
 release-requires-clause-linked c κs = (may_give_back_root _ _ (after_both _ _ _ _ c.in_ok-pass.ensures.1 c.sow_both-children.ensures.sows)).0
