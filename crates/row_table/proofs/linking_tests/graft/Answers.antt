@@ -1,4 +1,4 @@
-use Rattle.std.proofs.Common.{◌≡◌, ℕ, ◌+◌, ◌*◌, ap}
+use Rattle.std.proofs.Common.{ℕ, ◌+◌, ◌*◌, ap}
 use Rattle.row_table.proofs.Grafts.{may_prepare, may_link_one, link_one}
 use Rattle.row_table.proofs.linking_tests.graft.Goals as goal
 

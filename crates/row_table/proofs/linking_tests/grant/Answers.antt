@@ -1,4 +1,4 @@
-use Rattle.std.proofs.Common.{◌≡◌, ◌+◌, refl, ap, ◌∙◌, arith}
+use Rattle.std.proofs.Common.{◌+◌, refl, ap, ◌∙◌, arith}
 use Rattle.row_table.specs.Passes.{view_of}
 use Rattle.row_table.specs.Stock.{View}
 use Rattle.row_table.proofs.Stock.{may_take}

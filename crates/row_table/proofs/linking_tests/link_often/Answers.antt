@@ -1,4 +1,4 @@
-use Rattle.std.proofs.Common.{◌≡◌, true, ◌∙◌}
+use Rattle.std.proofs.Common.{true, ◌∙◌}
 use Rattle.row_table.proofs.Grafts.{may_release_root, idle_after}
 use Rattle.row_table.proofs.linking_tests.link_often.Goals as goal
 

@@ -1,4 +1,4 @@
-use Rattle.row_table.proofs.Grafts.{may_release_root, idle_after}
+use Rattle.row_table.proofs.Grafts.{may_release_root}
 use Rattle.row_table.proofs.linking_tests.meet.Goals as goal
 
 pub release-requires-clause-linked : goal.release-requires-clause-linked

@@ -1,7 +1,6 @@
-use Rattle.std.proofs.Common.{◌≡◌, ◌+◌, ◌-◌, ℕ, false, [], ◌∷◌, length, length-append, refl, ap, ◌∙◌, arith}
-use Rattle.std.specs.List.{range_with_len}
+use Rattle.std.proofs.Common.{false, [], ◌∷◌, length, length-append, ap, arith}
 use Rattle.row_table.proofs.Stock.{range_more}
-use Rattle.row_table.proofs.SownRoot.{false_none, false_more, may_begin}
+use Rattle.row_table.proofs.SownRoot.{false_none, false_more}
 use Rattle.row_table.proofs.sowing_tests.made.Goals as goal
 
 pub loop-init : goal.loop-init

@@ -1,4 +1,4 @@
-use Rattle.std.proofs.Common.{◌≡◌, ◌∙◌}
+use Rattle.std.proofs.Common.{◌∙◌}
 use Rattle.row_table.proofs.SownRoot.{after_both, may_both, may_give_back_root, idle_again}
 use Rattle.row_table.proofs.sowing_tests.sow_both_below_root.Goals as goal
 

@@ -1,4 +1,4 @@
-use Rattle.std.proofs.Common.{◌≡◌, inl, inr, sym, ap, ◌∙◌, subst}
+use Rattle.std.proofs.Common.{inl, inr, sym, ap, ◌∙◌, subst}
 use Rattle.row_table.specs.Passes.{view_of}
 use Rattle.walk_core.specs.Lists.{Has}
 use Rattle.row_table.specs.Sown.{View}
