@@ -23,6 +23,7 @@ use Rattle.row_table.specs.Plan.{Meaning}
 use Rattle.row_table.specs.Rows.{lock_of, generation_of}
 use Rattle.row_table.specs.Rule.{Homes, Table, levels_of, row_part, hand_part, core_of, Contents, Knows, Holds}
 use Rattle.row_table.proofs.Shown.{ShowsSame, shows_same}
+use Rattle.row_table.proofs.Hands.{rows_granted}
 use Rattle.row_table.proofs.Frames.{RowHome, words_after, moved, home_of, home_moves}
 use Rattle.row_table.proofs.Views.{head_or_later, pass_is, not_in_hand}
 use Rattle.row_table.proofs.Known.{held_below}
@@ -108,14 +109,14 @@ module _ {R B E : Type 0} (M : Meaning R B E) where
     -- what a pass knows that does not have the row
     knows_beside : (first b : B) (u : PassView R B E) → times r u.core.held ≡ 0 → times r (granted_rows u.core) ≡ 0 → Knows M k first ws b u → Knows M k first us b u
     knows_beside first b u unheld not_granted old =
-        let hand_other : (x : HandRow) → Contains u.hand x → x.row ≢ r = λ x i. not_part hand_part u.hand (granted_rows u.core) r old.granted not_granted x i in
+        let hand_other : (x : HandRow) → Contains u.hand x → x.row ≢ r = λ x i. not_part hand_part u.hand (granted_rows u.core) r (rows_granted u.hand u.core.granted old.granted) not_granted x i in
         record {
           there = old.there;
           layout = old.layout;
           epoch = epochs_stay u.number ∙ old.epoch;
           held = old.held;
           rows = λ x i. let o = old.rows x i in let z = others_show x.row (not_part row_part u.rows u.core.held r old.held unheld x i) in
-              record { there = o.there; shown = z.words ∙ o.shown; place = z.place ∙ o.place; generation = λ g e. z.generation ∙ o.generation g e; agrees = o.agrees };
+              record { there = o.there; shown = z.words ∙ o.shown; place = z.place ∙ o.place; generation = z.generation ∙ o.generation; agrees = o.agrees };
           granted = old.granted;
           hand = λ x i. let o = old.hand x i in record { there = o.there; shown = (others_show x.row (hand_other x i)).generation ∙ o.shown; below = o.below; fresh = o.fresh };
           vacant = old.vacant;
@@ -181,7 +182,7 @@ module _ {R B E : Type 0} (M : Meaning R B E) where
     pub hand_once : (r : ℕ) → times r (map hand_part v.hand) ≤ 1
     hand_once r = let know = h.knows v.number v mine in let all = h.good.sizes.passes in let there = know.there in
         let part = hand-le-out c v.number r (omega arith) in let most = out-le-one h.good.states r in
-        let same = ap (times r) know.granted in let is = ap (times_in_hand r) (pass_is M k first s h v mine) in omega arith
+        let same = ap (times r) (rows_granted v.hand v.core.granted know.granted) in let is = ap (times_in_hand r) (pass_is M k first s h v mine) in omega arith
 
     pub held_once : (r : ℕ) → times r (map row_part v.rows) ≤ 1
     held_once r = let know = h.knows v.number v mine in let once = h.good.locks.rows.once v.number r in

@@ -33,7 +33,7 @@ module _ {R B E : Type 0} (M : Meaning R B E) where
       layout = old.layout;
       epoch = is;
       held = old.held;
-      rows = λ y i. let o = old.rows y i in let z = rows_show y.row o.there in record { there = o.there; shown = z.words ∙ o.shown; place = z.place ∙ o.place; generation = λ g e. z.generation ∙ o.generation g e; agrees = o.agrees };
+      rows = λ y i. let o = old.rows y i in let z = rows_show y.row o.there in record { there = o.there; shown = z.words ∙ o.shown; place = z.place ∙ o.place; generation = z.generation ∙ o.generation; agrees = o.agrees };
       granted = old.granted;
       hand = λ y i. let o = old.hand y i in record { there = o.there; shown = (rows_show y.row o.there).generation ∙ o.shown; below = o.below; fresh = o.fresh };
       vacant = old.vacant;

@@ -16,12 +16,11 @@ use Rattle.walk_core.specs.Words.{epoch_at, book_at, stale}
 use Rattle.walk_core.specs.Lists.{times, Has}
 use Rattle.walk_core.specs.declared.pass.GrantedRow.{GrantedRow}
 use Rattle.walk_core.specs.declared.pass.UnlinkedRow.{UnlinkedRow}
-use Rattle.walk_core.specs.Core.{Core, word, place_in, pass_at, idle, times_in_hand, times_out, IsLinked}
+use Rattle.walk_core.specs.Core.{Core, word, pass_at, idle, times_in_hand, times_out, IsLinked}
 use Rattle.walk_core.specs.Good.{Good, LockSays, says_free, says_held, says_stale}
 use Rattle.walk_core.proofs.RowLists.{times-nil, times-cons_other}
-use Rattle.walk_core.proofs.Tree.{names_linked}
-use Rattle.walk_core.proofs.Facts.{root_linked, out-le-one}
-use Rattle.walk_core.proofs.Keeps.{found_is}
+use Rattle.walk_core.proofs.Facts.{out-le-one, free_linked}
+use Rattle.walk_core.proofs.Keeps.{found_is, found_there}
 use Rattle.row_layout.specs.declared.places.Layout.{Layout}
 use Rattle.row_table.specs.declared.view.PassView.{PassView}
 use Rattle.row_table.specs.declared.plan.Content.TheVariants.{Row, Book}
@@ -29,9 +28,9 @@ use Rattle.row_table.specs.Plan.{Meaning}
 use Rattle.row_table.specs.Rows.{row_words, place_at, lock_of}
 use Rattle.row_table.specs.Rule.{Slot, Table, core_part, core_of, Seats, Holds}
 use Rattle.row_layout.specs.Places.{word_count}
-use Rattle.row_table.specs.Close.{HasNothing, IsIdle, HasAll, IsReachedIn, IsReached, times_listed, IsGoodEnd, KnownAtEnd, AtEnd, IsClosed}
+use Rattle.row_table.specs.Close.{HasNothing, IsIdle, HasAll, IsReached, times_listed, IsGoodEnd, KnownAtEnd, AtEnd, IsClosed}
 use Rattle.row_table.proofs.Known.{held_below}
-use Rattle.row_table.proofs.Spans.{parent_of, row_low, above_level}
+use Rattle.row_table.proofs.Tree.{reached_linked, linked_reached}
 use Rattle.row_table.proofs.Turns.{book_below}
 
 -- an element of two lists put together
@@ -47,7 +46,7 @@ joined id other n x = cond (x.0 == other) (id, n + x.1) x
 abbrev chosen : Bool → ℕ × ℕ → ℕ × ℕ → ℕ × ℕ
 chosen b x y = cond b x y
 
-contained_at : {A : Type 0} (xs : List A) (x : A) → Contains xs x → (i : ℕ) × (get_elem? xs i ≡ some x)
+pub contained_at : {A : Type 0} (xs : List A) (x : A) → Contains xs x → (i : ℕ) × (get_elem? xs i ≡ some x)
 contained_at [] x (k, less, is) = absurd (omega arith)
 contained_at (y ∷ ys) x (zero, less, is) = (0, ap some is)
 contained_at (y ∷ ys) x (suc k, less, is) = let o = contained_at ys x (k, omega arith, is) in (suc o.0, o.1)
@@ -173,10 +172,6 @@ module _ {R B E : Type 0} where
           says n is (says_held p shown has) = absurd (nobody_holds p r has)
           says n is (says_stale z out) = let tree = l.in_tree in absurd (omega arith)
 
-      reached_linked : (n r : ℕ) → IsReachedIn s.words n r → IsLinked c r
-      reached_linked zero r z = subst (IsLinked c) (sym z) (root_linked h.good)
-      reached_linked (suc n) r t = let l = reached_linked n t.0 t.1 in subst (IsLinked c) t.2.3 (names_linked h.good.links t.0 t.2.0 l.there t.2.1 t.2.2)
-
       -- no hand has a row, so a row is out of the tree where it is in a list of the book
       no_hand : (r i : ℕ) → i < length c.passes → times_in_hand r (get_or c.passes i idle) ≡ 0
       no_hand r i less =
@@ -187,12 +182,6 @@ module _ {R B E : Type 0} where
       out_is : (r : ℕ) → times_out c r ≡ times_listed M r h.book
       unfolding times_out
       out_is r = let hands = sum_none (times_in_hand r) c.passes idle (no_hand r) in let same = h.same_free r in omega arith
-
-      reached_up : (n q : ℕ) → 6 ≤ (place_in c q).level + n → IsLinked c q → IsReached s.words q
-      reached_up zero q high l = dite (ℕ_discrete q 0) (λ z. (0, z)) (λ nz. let low = row_low h.good q nz l in absurd (omega arith))
-      reached_up (suc n) q high l = dite (ℕ_discrete q 0) (λ z. (0, z))
-          (λ nz. let p = parent_of h.good q nz l in let o = reached_up n p.row (let more = above_level h.good q p in omega arith) p.linked in
-          (suc o.0, (p.row, o.1, (p.index, p.inside, p.link, p.to_row))))
 
       good_end : IsGoodEnd M k s.words h.book
       good_end = record {
@@ -207,8 +196,8 @@ module _ {R B E : Type 0} where
         hands = λ p less. let o = core_still p less in subst HasNothing (sym o.2) o.1;
         once = λ r. let out = out-le-one h.good.states r in let is = out_is r in omega arith;
         there = λ r past. sym (out_is r) ∙ h.good.states.there r past;
-        reached = λ r less none. reached_up 6 r (omega arith) (record { there = less; in_tree = out_is r ∙ none });
-        unlisted = λ r reached. let l = reached_linked reached.0 r reached.1 in (l.there, sym (out_is r) ∙ l.in_tree);
+        reached = λ r less none. linked_reached h.good r (record { there = less; in_tree = out_is r ∙ none });
+        unlisted = λ r reached. let l = reached_linked h.good r reached in (l.there, sym (out_is r) ∙ l.in_tree);
       }
 
       pub ended : (xs : List (Slot R B)) → ((j : ℕ) (y : Slot R B) → get_elem? s.homes j ≡ some (some y) → get_elem? xs j ≡ some y) → AtEnd M k vs s.words xs
@@ -218,8 +207,12 @@ module _ {R B E : Type 0} where
         row_there = λ r less. let t = row_home r less in (t.0, at r (Some (Row t.0)) t.1);
         good = good_end;
         even = λ t less. let o = core_still t less in h.good.stands.parity t less ∙ ap Rattle.walk_core.specs.Good.inside (ap (λ (u : PassCore). u.stand) o.2 ∙ o.1.outside);
-        agree = λ r x reached there. let l = reached_linked reached.0 r reached.1 in let t = h.contents.linked r l.there (linked_free r l) in
+        agree = λ r x reached there. let l = reached_linked h.good r reached in let t = h.contents.linked r l.there (linked_free r l) in
             let both = sym (at r (Some (Row t.0)) t.1) ∙ there in let same : t.0 ≡ x = cc in subst (M.agrees h.book (place_at s.words r) (row_words s.words r)) same t.2;
+        blank = λ r x less unreached there. ⊎_elim
+            (λ (z : lock_of s.words r ≡ 0). absurd (unreached (linked_reached h.good r (free_linked h.good.locks.rows r less z))))
+            (λ (z : lock_of s.words r ≡ stale). let t = h.contents.others r less z in let both = sym (at r (Some (Row t.0)) t.1) ∙ there in let same : t.0 ≡ x = cc in subst M.is_blank same t.2)
+            (locks r less);
         knows = λ v i. let know = h.knows v.number v (view_there v i) in (know.there, record { same_epoch = know.epoch; fixed = λ b e. let opt = sym know.origin ∙ e in let same : first ≡ b = cc in subst (λ (y : B). M.same_fixed y h.book) same h.fixed; seen = know.seen; mine = know.mine });
       }
 
@@ -294,5 +287,6 @@ closed_is {R} {B} M k views ws xs words epochs rows book first end same at_first
       even = λ t less. ap (λ (n : ℕ). n % 2) (epoch t less ∙ from t) ∙ end.even t less;
       agree = λ r x reached at. subst (λ (l : List ℕ). M.agrees book (place_at l r) (row_words l r) x) (sym same)
           (subst (λ (b : B). M.agrees b (place_at ws r) (row_words ws r) x) book_is (end.agree r x (subst (λ (l : List ℕ). IsReached l r) same reached) (rows_from r x at)));
+      blank = λ r x unreached at. end.blank r x (let less = found_there rows r x at in omega arith) (λ reached. unreached (subst (λ (l : List ℕ). IsReached l r) (sym same) reached)) (rows_from r x at);
       knows = λ v i. let o = end.knows v i in let e = (epoch v.number o.0 ∙ from v.number) in (o.0, subst (λ (b : B). KnownAtEnd M (get_or epochs v.number 0) b v) book_is (record { same_epoch = e ∙ o.1.same_epoch; fixed = o.1.fixed; seen = o.1.seen; mine = o.1.mine }));
     }

@@ -103,7 +103,7 @@ module _ {R B E : Type 0} where
       layout = old.layout;
       epoch = same.epochs u.number old.there ∙ old.epoch;
       held = old.held;
-      rows = λ x i. let o = old.rows x i in let z = same.rows x.row o.there in record { there = o.there; shown = z.words ∙ o.shown; place = z.place ∙ o.place; generation = λ g e. z.generation ∙ o.generation g e; agrees = o.agrees };
+      rows = λ x i. let o = old.rows x i in let z = same.rows x.row o.there in record { there = o.there; shown = z.words ∙ o.shown; place = z.place ∙ o.place; generation = z.generation ∙ o.generation; agrees = o.agrees };
       granted = old.granted;
       hand = λ x i. let o = old.hand x i in record { there = o.there; shown = (same.rows x.row o.there).generation ∙ o.shown; below = o.below; fresh = o.fresh };
       vacant = old.vacant;

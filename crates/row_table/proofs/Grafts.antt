@@ -1,6 +1,6 @@
 -- What a pass of the tests' plan with rows to grant has after each of its calls.
-use Rattle.std.proofs.Common.{◌≡◌, ◌≢◌, ℕ, ◌+◌, ◌*◌, ◌^◌, ◌<◌, ◌≤◌, eqb, cond, not, Bool, true, false, List, [], ◌∷◌, ◌++◌, map, length, get_or, set, inr, sym, refl, ap, ◌∙◌, subst, ⊎_elim, arith, eq-eqb, ne_eqb, get_or-set_same, length-set, Some, None}
-use Rattle.std.specs.List.{Contains, filter, find}
+use Rattle.std.proofs.Common.{◌≡◌, ◌≢◌, ℕ, ◌+◌, ◌*◌, ◌^◌, ◌<◌, ◌≤◌, eqb, cond, not, Bool, true, false, List, [], ◌∷◌, ◌++◌, map, get_or, set, inr, sym, refl, ap, ◌∙◌, subst, ⊎_elim, arith, eq-eqb, ne_eqb, get_or-set_same, length-set, Some, None}
+use Rattle.std.specs.List.{Contains, filter}
 use Rattle.std.proofs.lemmas.List.Elements.{Contains-append_left, Contains-append_right}
 use Rattle.table_place.specs.declared.Place.{Place}
 use Rattle.table_place.specs.Place.{directory, entry_place, is_place}
@@ -13,7 +13,7 @@ use Rattle.walk_core.specs.Lists.{times, Has, without}
 use Rattle.walk_core.specs.Core.{unlinked_rows}
 use Rattle.walk_core.specs.Events.{top, newly_granted, newly_unlinked, granted_after_part, granted_after_entry, unlinked_after_give, stand_after_look}
 use Rattle.walk_core.specs.Guards.{StandsOn, put_rows}
-use Rattle.walk_core.proofs.RowLists.{times-nil, times-cons_same, times-cons_other, times-append, times_one_same, times_one_other, among_true}
+use Rattle.walk_core.proofs.RowLists.{times-nil, times-cons_other, times-append, times_one_same, times_one_other, among_true}
 use Rattle.walk_core.proofs.Spellings.{link_word_is, link_row-link_word, link_generation-link_word, is_link-link_word, zero_no_link}
 use Rattle.row_layout.specs.declared.places.Layout.{Layout}
 use Rattle.row_table.specs.declared.view.HeldRow.{HeldRow}
@@ -24,10 +24,10 @@ use Rattle.row_table.specs.Moves.{grabbed, got, released, Finds, Fits, NotInHand
 use Rattle.row_table.specs.Crossings.{entered, left}
 use Rattle.row_table.specs.Looks.{looked_at, Reads}
 use Rattle.row_table.specs.Books.{given, hand_rows, taken_rows, put_list, turned, Learns, Gives}
-use Rattle.row_table.specs.Openings.{with_place, with_number, opened_row, prepared, opened, MaySetUp, MayOpen, IsSetUp}
+use Rattle.row_table.specs.Openings.{with_place, with_number, opened_row, prepared, opened, MaySetUp, IsSetUp}
 use Rattle.row_table.specs.Links.{with_word, newly_linked, with_link, link_set, word_set, entry_cut, MaySetEntry, Sets, MayUnlink, Unlinks}
 use Rattle.row_table.specs.Close.{IsIdle}
-use Rattle.row_table.specs.Stock.{Stock, stock, View, HasRoot, HasGrant}
+use Rattle.row_table.specs.Stock.{Stock, stock, View, HasRoot, HasGrant, HasGraft}
 use Rattle.row_table.proofs.Views.{head_or_later, in_head, in_tail}
 use Rattle.row_table.proofs.Openings.{blank_zero, in_map}
 use Rattle.row_table.proofs.Stock.{taken_is, put_is, taken_none}
@@ -36,7 +36,7 @@ use Rattle.row_table.proofs.Stock.{taken_is, put_is, taken_none}
 abbrev pub root_link : ℕ
 root_link = 4198919
 
-root_is_link : is_link root_link ≡ true
+pub root_is_link : is_link root_link ≡ true
 unfolding is_link link_word
 root_is_link = refl
 
@@ -107,8 +107,8 @@ same_book : (v0 v1 : View) (book a : Stock) → v1 ≡ turned stock v0 book → 
 same_book v0 v1 book a e found = let is : Some a ≡ Some book = sym found ∙ ap (λ (v : View). v.found) e in cc
 
 pub granted_one : (k : Layout) (rows : ℕ) (v0 v1 v2 : View) (book new : Stock) (row : ℕ) (b : Bool) → HasRoot v0 0 (1 ∷ []) [] [] b → Learns stock rows v0 book → v1 ≡ turned stock v0 book → (g : Gives stock v1 new v2)
-    → new.2 ≡ book.2 + 1 → book.0.items ≡ new.0.items ++ row ∷ [] → new.1.items ≡ book.1.items → row ≢ 1 → row < 1024 → book.2 < 2 ^ 30 → HasGrant v2 row book.2
-granted_one k rows v0 v1 v2 book new row b root learns e1 g next front limbo other small few =
+    → new.2 ≡ book.2 + 1 → book.0.items ≡ new.0.items ++ row ∷ [] → new.1.items ≡ book.1.items → row < 1024 → book.2 < 2 ^ 30 → HasGrant v2 row book.2
+granted_one k rows v0 v1 v2 book new row b root learns e1 g next front limbo small few =
     let old_is : g.old ≡ book = same_book v0 v1 book g.old e1 g.found in
     let taken : taken_rows stock g.old new ≡ row ∷ [] = ap (λ (a : Stock). taken_rows stock a new) old_is
     ∙ taken_is k v1 book new row (ap (λ (v : View). v.core.has_book) e1) (omega arith) front limbo (λ q. let o = learns.once q in omega arith) in
@@ -127,7 +127,9 @@ granted_one k rows v0 v1 v2 book new row b root learns e1 g next front limbo oth
       above = (let has : Has (taken_rows stock g.old new) row = subst (λ (l : List ℕ). Has l row) (sym taken) (let one = times_one_same row row refl in omega arith) in let lower = g.grants.low row has in omega arith);
       low = omega arith;
       high = omega arith;
-      other = other;
+      -- it holds row 1, which is not free then
+      other = λ z. (let held = ap (times 1) root.held in let self = times_one_same 1 1 refl in let apart = learns.apart 1 (omega arith) in
+          let free = ap (times 1) front in let all = times-append 1 new.0.items (row ∷ []) in let one = times_one_same 1 row z in omega arith);
       small = small;
       few = few;
     }
@@ -167,7 +169,6 @@ may_prepare v row g may = record {
   known = may.known;
   in_hand = may.in_hand;
   same_row = may.same_row;
-  granted = (let one = times_one_same row row refl in let all = ap (λ (gs : List GrantedRow). times row (map (λ (x : GrantedRow). x.row) gs)) may.root.granted in omega arith);
   closed = ap (times row) may.root.held ∙ row_has row may.other;
   is_place = child_is_place v.layout;
   above = may.above;
@@ -209,13 +210,6 @@ set_up_one v v1 row g may e1 =
       granted = ap (λ (u : View). u.core.granted) e1 ∙ (ap (λ (gs : List GrantedRow). granted_after_part row (Generation g) (granted_after_part row (Position child_place) gs)) may.root.granted ∙ prepared_one row g child_place);
     }
 
-pub may_open_one : (v v1 : View) (row g : ℕ) → HasGrant v row g → v1 ≡ prepared v row child_place g → MayOpen v1 row
-may_open_one v v1 row g may e1 =
-    let is = set_up_one v v1 row g may e1 in let done : GrantedRow = record { row = row; has_position = true; has_generation = true } in record {
-      both_set = ap (find (λ (x : GrantedRow). eqb x.row row)) is.granted ∙ ap (λ (b : Bool). cond b (Some done) None) (eq-eqb row row refl);
-      closed = ap (λ (u : View). times row u.core.held) e1 ∙ (ap (times row) may.root.held ∙ row_has row may.other);
-    }
-
 record IsOpened (v v2 : View) (row g : ℕ) : Type 0 where
   pub child : HeldRow ℕ
   pub child_there : Contains v2.rows child
@@ -235,13 +229,13 @@ record IsOpened (v v2 : View) (row g : ℕ) : Type 0 where
   pub outside : v2.core.stand ≡ None
   pub has_not : v2.core.has_book ≡ false
 
-open_one : (v v1 v2 : View) (row g : ℕ) → HasGrant v row g → v1 ≡ prepared v row child_place g → (at : IsSetUp v1 row) → v2 ≡ opened v1 row at.place → IsOpened v v2 row g
+open_one : (v v1 v2 : View) (row g : ℕ) → HasGrant v row g → v1 ≡ prepared v row child_place g → (at : IsSetUp v1 row) → v2 ≡ opened v1 row at.place at.known.generation → IsOpened v v2 row g
 open_one v v1 v2 row g may e1 at e2 =
-    let is = set_up_one v v1 row g may e1 in let child : HeldRow ℕ = opened_row row at.place in record {
+    let is = set_up_one v v1 row g may e1 in let child : HeldRow ℕ = opened_row row at.place at.known.generation in record {
       child = child;
       child_there = subst (λ (l : List (HeldRow ℕ)). Contains l child) (sym (ap (λ (u : View). u.rows) e2)) (Contains-append_right v1.rows (child ∷ []) child (in_head child []));
       child_row = refl;
-      child_place = at.same is.hand_row is.in_hand is.same_row child_place is.place;
+      child_place = (let same = at.only is.hand_row is.in_hand is.same_row in let shown : Some at.place ≡ Some child_place = sym at.is_set ∙ (ap (λ (x : HandRow). x.place) (sym same) ∙ is.place) in cc);
       child_words = refl;
       root_there = λ h i. subst (λ (l : List (HeldRow ℕ)). Contains l h) (sym (ap (λ (u : View). u.rows) e2 ∙ ap (λ (u : View). u.rows ++ child ∷ []) e1)) (Contains-append_left v.rows (child ∷ []) h i);
       hand_row = is.hand_row;
@@ -258,7 +252,7 @@ open_one v v1 v2 row g may e1 at e2 =
     }
 
 -- the entry of row 1 may link it
-pub may_link_one : (v v1 v2 : View) (row g word : ℕ) → HasGrant v row g → v1 ≡ prepared v row child_place g → (at : IsSetUp v1 row) → v2 ≡ opened v1 row at.place → word ≡ 519 + 4096 * row + 4194304 * g → MaySetEntry v2 1 5 word
+pub may_link_one : (v v1 v2 : View) (row g word : ℕ) → HasGrant v row g → v1 ≡ prepared v row child_place g → (at : IsSetUp v1 row) → v2 ≡ opened v1 row at.place at.known.generation → word ≡ 519 + 4096 * row + 4194304 * g → MaySetEntry v2 1 5 word
 may_link_one v v1 v2 row g word may e1 at e2 is =
     let o = open_one v v1 v2 row g may e1 at e2 in let l = link_of word row g may.small may.few is in let root = may.root in record {
       linker = root.row_one;
@@ -280,10 +274,6 @@ may_link_one v v1 v2 row g word may e1 at e2 is =
       }));
     }
 
-pub holds_root : (v v1 v2 : View) (row g : ℕ) → HasGrant v row g → v1 ≡ prepared v row child_place g → (at : IsSetUp v1 row) → v2 ≡ opened v1 row at.place → Has v2.core.held 1
-holds_root v v1 v2 row g may e1 at e2 = let o = open_one v v1 v2 row g may e1 at e2 in
-    let same = ap (times 1) o.held in let one = times-cons_same 1 1 (row ∷ []) refl in omega arith
-
 kept_in : {X : Type 0} (t : X → Bool) (xs : List X) (x : X) → Contains xs x → t x ≡ true → Contains (filter t xs) x
 kept_in t [] x i e = let less = i.1 in absurd (omega arith)
 kept_in {X} t (y ∷ ys) x i e = ⊎_elim
@@ -297,26 +287,7 @@ kept_in {X} t (y ∷ ys) x i e = ⊎_elim
 
 -- What the pass has after the entry links the row, and after it is 0 again
 
-record IsGrafted (v v3 : View) (row word : ℕ) : Type 0 where
-  pub linker : HeldRow ℕ
-  pub there : Contains v3.rows linker
-  pub number : linker.row ≡ 1
-  pub place : linker.place ≡ entry_place (levels_of v3.layout) directory 0
-  pub long : length linker.words ≡ 512
-  pub word_five : get_or linker.words 5 0 ≡ word
-  pub is_given : linker.is_given ≡ true
-  pub child : HeldRow ℕ
-  pub child_there : Contains v3.rows child
-  pub child_row : child.row ≡ row
-  pub child_words : child.words ≡ blank_words
-  pub granted : v3.core.granted ≡ []
-  pub unlinked : v3.core.unlinked ≡ []
-  pub held : v3.core.held ≡ 1 ∷ row ∷ []
-  pub last : v3.last ≡ v.last
-  pub outside : v3.core.stand ≡ None
-  pub has_not : v3.core.has_book ≡ false
-
-link_one : (v v1 v2 v3 : View) (row g word : ℕ) → HasGrant v row g → v1 ≡ prepared v row child_place g → (at : IsSetUp v1 row) → v2 ≡ opened v1 row at.place → word ≡ 519 + 4096 * row + 4194304 * g → Sets 1 5 word v2 v3 → IsGrafted v v3 row word
+pub link_one : (v v1 v2 v3 : View) (row g word : ℕ) → HasGrant v row g → v1 ≡ prepared v row child_place g → (at : IsSetUp v1 row) → v2 ≡ opened v1 row at.place at.known.generation → word ≡ 519 + 4096 * row + 4194304 * g → Sets 1 5 word v2 v3 → HasGraft v3 row
 link_one v v1 v2 v3 row g word may e1 at e2 is sets =
     let o = open_one v v1 v2 row g may e1 at e2 in let l = link_of word row g may.small may.few is in let root = may.root in let r : HeldRow ℕ = root.row_one in
     let c : ℕ = link_row word in
@@ -333,13 +304,15 @@ link_one v v1 v2 v3 row g word may e1 at e2 is sets =
     let rows : v3.rows ≡ map f v2.rows = ap (λ (u : View). u.rows) e3 in
     let layout : v3.layout ≡ v.layout = ap (λ (u : View). u.layout) e3 ∙ o.layout in
     let done : GrantedRow = record { row = row; has_position = true; has_generation = true } in
+    let long = root.long in let five : get_or (set r.words 5 word) 5 0 ≡ word = get_or-set_same r.words 5 word 0 (omega arith) in
     record {
       linker = record z { vacant = without 5 r.vacant };
       there = subst (λ (xs : List (HeldRow ℕ)). Contains xs (record z { vacant = without 5 r.vacant })) (sym rows) (subst (Contains (map f v2.rows)) root_is (in_map f v2.rows r (o.root_there r root.there)));
       number = root.number;
       place = root.place ∙ ap (λ (y : Layout). entry_place (levels_of y) directory 0) (sym layout);
       long = length-set r.words 5 word ∙ root.long;
-      word_five = (let long = root.long in get_or-set_same r.words 5 word 0 (omega arith));
+      link = ap is_link five ∙ l.link;
+      to_row = ap link_row five ∙ l.to_row;
       is_given = root.is_given;
       child = newly_linked r 5 o.child;
       child_there = subst (λ (xs : List (HeldRow ℕ)). Contains xs (newly_linked r 5 o.child)) (sym rows) (subst (Contains (map f v2.rows)) child_is (in_map f v2.rows o.child o.child_there));
@@ -349,57 +322,50 @@ link_one v v1 v2 v3 row g word may e1 at e2 is sets =
           ∙ (ap (λ (b : Bool). cond b (cond (not (eqb row c)) (done ∷ []) []) (done ∷ [])) l.link ∙ ap (λ (b : Bool). cond (not b) (done ∷ []) []) (eq-eqb row c (sym l.to_row))));
       unlinked = ap (λ (u : View). u.core.unlinked) e3 ∙ o.unlinked;
       held = ap (λ (u : View). u.core.held) e3 ∙ o.held;
-      last = ap (λ (u : View). u.last) e3 ∙ o.last;
+      last = (let b = root.last refl in (b.0, ap (λ (u : View). u.last) e3 ∙ (o.last ∙ b.1)));
       outside = ap (λ (u : View). u.core.stand) e3 ∙ o.outside;
       has_not = ap (λ (u : View). u.core.has_book) e3 ∙ o.has_not;
+      other = may.other;
     }
 
-module _ (v v1 v2 v3 v4 v5 : View) (row g word : ℕ) (may : HasGrant v row g) (e1 : v1 ≡ prepared v row child_place g) (at : IsSetUp v1 row) (e2 : v2 ≡ opened v1 row at.place)
-    (is : word ≡ 519 + 4096 * row + 4194304 * g) (sets : Sets 1 5 word v2 v3) where
-  linked : IsGrafted v v3 row word
-  linked = link_one v v1 v2 v3 row g word may e1 at e2 is sets
-
-  pub holds_root_still : Has v3.core.held 1
-  holds_root_still = let o = linked in let same = ap (times 1) o.held in let one = times-cons_same 1 1 (row ∷ []) refl in omega arith
-
+module _ (v3 v4 v5 : View) (row : ℕ) (o : HasGraft v3 row) where
   pub may_cut_one : MayUnlink v3 1 5
-  may_cut_one = let o = linked in let l = link_of word row g may.small may.few is in record {
+  may_cut_one = record {
     linker = o.linker;
     held = o.there;
     same_row = o.number;
     inside = omega arith;
-    link = ap is_link o.word_five ∙ l.link;
+    link = o.link;
     child = o.child;
     child_held = o.child_there;
-    child_row = o.child_row ∙ (sym l.to_row ∙ ap link_row (sym o.word_five));
+    child_row = o.child_row ∙ sym o.to_row;
     child_empty = λ i low. ap (λ (ws : List ℕ). get_or ws i 0) o.child_words ∙ blank_zero i low;
   }
 
   module _ (cuts : Unlinks 1 5 v3 v4) where
-    cut_is : v4 ≡ entry_cut v3 linked.linker 5
-    cut_is = let o = linked in cuts o.linker o.there o.number
+    cut_is : v4 ≡ entry_cut v3 o.linker 5
+    cut_is = cuts o.linker o.there o.number
 
     cut_unlinked : v4.core.unlinked ≡ newly_unlinked row ∷ []
-    cut_unlinked = let o = linked in let l = link_of word row g may.small may.few is in
-        ap (λ (u : View). u.core.unlinked) cut_is ∙ (λ j. o.unlinked j ++ newly_unlinked ((ap link_row o.word_five ∙ l.to_row) j) ∷ [])
+    cut_unlinked = ap (λ (u : View). u.core.unlinked) cut_is ∙ (λ j. o.unlinked j ++ newly_unlinked (o.to_row j) ∷ [])
 
     cut_held : v4.core.held ≡ 1 ∷ row ∷ []
-    cut_held = let o = linked in ap (λ (u : View). u.core.held) cut_is ∙ o.held
+    cut_held = ap (λ (u : View). u.core.held) cut_is ∙ o.held
 
     pub may_mark_held : Has v4.core.held row
-    may_mark_held = let same = ap (times row) cut_held in let all = times-cons_other row 1 (row ∷ []) (λ e. may.other (sym e)) in let one = times_one_same row row refl in omega arith
+    may_mark_held = let same = ap (times row) cut_held in let all = times-cons_other row 1 (row ∷ []) (λ e. o.other (sym e)) in let one = times_one_same row row refl in omega arith
 
     pub may_mark_unlinked : Has (unlinked_rows v4.core) row
     may_mark_unlinked = let same = ap (λ us. times row (map (λ u. u.row) us)) cut_unlinked in let one = times_one_same row row refl in omega arith
 
     pub marked_one : v5 ≡ released v4 row → HasRoot v5 0 (1 ∷ []) [] (newly_unlinked row ∷ []) true
     marked_one e5 =
-        let o = linked in let r : HeldRow ℕ = o.linker in let y : HeldRow ℕ = record r { words = set r.words 5 0 } in
+        let r : HeldRow ℕ = o.linker in let y : HeldRow ℕ = record r { words = set r.words 5 0 } in
         let long = o.long in
         let is_there : with_word r.row 5 0 r ≡ y = ap (λ (b : Bool). cond b y r) (eq-eqb r.row r.row refl) in
         let there4 : Contains v4.rows y = subst (λ (xs : List (HeldRow ℕ)). Contains xs y) (sym (ap (λ (u : View). u.rows) cut_is)) (subst (Contains (map (with_word r.row 5 0) v3.rows)) is_there (in_map (with_word r.row 5 0) v3.rows r o.there)) in
         let layout : v5.layout ≡ v3.layout = ap (λ (u : View). u.layout) e5 ∙ ap (λ (u : View). u.layout) cut_is in
-        let other : eqb y.row row ≡ false = ne_eqb y.row row (λ e. may.other (sym e ∙ o.number)) in
+        let other : eqb y.row row ≡ false = ne_eqb y.row row (λ e. o.other (sym e ∙ o.number)) in
         record {
           row_one = y;
           there = subst (λ (xs : List (HeldRow ℕ)). Contains xs y) (sym (ap (λ (u : View). u.rows) e5)) (kept_in (λ (h : HeldRow ℕ). not (eqb h.row row)) v4.rows y there4 (ap not other));
@@ -408,8 +374,8 @@ module _ (v v1 v2 v3 v4 v5 : View) (row g word : ℕ) (may : HasGrant v row g) (
           long = length-set r.words 5 0 ∙ o.long;
           word_five = get_or-set_same r.words 5 0 0 (omega arith);
           is_given = o.is_given;
-          last = λ _. let b = may.root.last refl in (b.0, ap (λ (u : View). u.last) e5 ∙ (ap (λ (u : View). u.last) cut_is ∙ (o.last ∙ b.1)));
-          held = ap (λ (u : View). u.core.held) e5 ∙ (ap (without row) cut_held ∙ (ap (λ (b : Bool). cond (not b) (1 ∷ without row (row ∷ [])) (without row (row ∷ []))) (ne_eqb 1 row (λ e. may.other (sym e)))
+          last = λ _. (o.last.0, ap (λ (u : View). u.last) e5 ∙ (ap (λ (u : View). u.last) cut_is ∙ o.last.1));
+          held = ap (λ (u : View). u.core.held) e5 ∙ (ap (without row) cut_held ∙ (ap (λ (b : Bool). cond (not b) (1 ∷ without row (row ∷ [])) (without row (row ∷ []))) (ne_eqb 1 row (λ e. o.other (sym e)))
               ∙ ap (λ (b : Bool). 1 ∷ cond (not b) (row ∷ []) []) (eq-eqb row row refl)));
           outside = ap (λ (u : View). u.core.stand) e5 ∙ (ap (λ (u : View). u.core.stand) cut_is ∙ o.outside);
           granted = ap (λ (u : View). u.core.granted) e5 ∙ (ap (λ (u : View). u.core.granted) cut_is ∙ o.granted);
@@ -431,9 +397,8 @@ put_marked v0 v1 book row root other e1 = (
   ap (times row) (ap (λ (v : View). v.core.held) e1 ∙ root.held) ∙ row_has row other,
 )
 
-pub may_release_root : (v : View) → HasRoot v 0 (1 ∷ []) [] [] true → Has v.core.held 1 × NotInHand v 1 × Fits stock v 1 0
+pub may_release_root : (v : View) → HasRoot v 0 (1 ∷ []) [] [] true → NotInHand v 1 × Fits stock v 1 0
 may_release_root v root = (
-  (let same = ap (times 1) root.held in let one = times_one_same 1 1 refl in omega arith),
   (let a = ap (λ (gs : List GrantedRow). times 1 (map (λ (g : GrantedRow). g.row) gs)) root.granted in let b = ap (λ (us : List UnlinkedRow). times 1 (map (λ (u : UnlinkedRow). u.row) us)) root.unlinked in let n = times-nil 1 in omega arith),
   record { known = root.row_one; held = root.there; same_row = root.number; content_fits = inr (root.is_given, let b = root.last refl in (b.0, b.1, λ _. refl)) },
 )

@@ -24,6 +24,7 @@ use Rattle.row_table.specs.Rows.{row_words, place_at, generation_of}
 use Rattle.row_table.specs.Rule.{Table, levels_of, core_of, Holds}
 use Rattle.row_table.specs.Known.{LinksRow, IsKnownPlace, IsKnownGeneration, IsHolder, IsLoose, LinksBelow, LinksLead, IsRight}
 use Rattle.row_table.proofs.Shown.{word_at}
+use Rattle.row_table.proofs.Hands.{rows_granted}
 use Rattle.row_table.proofs.Views.{pass_is, has_held}
 
 -- a pass that holds a row is there
@@ -53,7 +54,7 @@ module _ {R B E : Type 0} (M : Meaning R B E) (k : Layout) (first : B) (s : Tabl
   generation_known r =
       let know = h.knows v.number v mine in record {
         of_stand = λ t is same. let stand = h.good.stands.stand v.number t (ap (λ (u : PassCore). u.stand) (pass_is M k first s h v mine) ∙ is) in ap (generation_of s.words) (sym same) ∙ stand.generation;
-        of_held = λ x j same g is. ap (generation_of s.words) (sym same) ∙ (know.rows x j).generation g is;
+        of_held = λ x j same. ap (generation_of s.words) (sym same) ∙ (know.rows x j).generation;
         of_entry = λ l. let o = know.rows l.linker l.held in let at = entry_is l.linker l.held l.index l.inside in
             let t = h.good.links.links_true l.linker.row l.index o.there l.inside (ap is_link at ∙ l.link) in
             ap (generation_of s.words) (sym (ap link_row at ∙ l.to_row)) ∙ (t.generation ∙ ap link_generation at);
@@ -88,7 +89,7 @@ module _ {R B E : Type 0} (M : Meaning R B E) (k : Layout) (first : B) (s : Tabl
         number = subst (λ (y : Layout). v.number < y.passes) (sym know.layout) know.there;
         rows = know.held;
         once = λ r. subst (λ (u : PassCore). times r u.held ≤ 1) is (h.good.locks.rows.once v.number r);
-        hand = know.granted;
+        hand = rows_granted v.hand v.core.granted know.granted;
         parity = ap (λ (e : ℕ). e % 2) (sym know.epoch) ∙ (h.good.stands.parity v.number know.there ∙ ap (λ (u : PassCore). inside u.stand) is);
         bounded = (let low = h.good.stands.bounded v.number know.there in let e = know.epoch in omega arith);
       }

@@ -2,6 +2,7 @@ pub mod Stacks
 pub mod Shown
 pub mod Frames
 pub mod Views
+pub mod Hands
 pub mod Locks
 pub mod Beside
 pub mod Known
@@ -18,8 +19,18 @@ pub mod Crossings
 pub mod Looks
 pub mod Marks
 pub mod Openings
+pub mod StartWords
 pub mod Links
 pub mod Sized
 pub mod Stock
 pub mod Grafts
 pub mod Visits
+pub mod Standing
+pub mod Holding
+pub mod Tree
+pub mod Stepping
+pub mod Closings
+pub mod SownPlaces
+pub mod SownSteps
+pub mod SownRoot
+pub mod SownPair

@@ -28,10 +28,11 @@ use Rattle.row_table.specs.declared.view.HandRow.{HandRow}
 use Rattle.row_table.specs.Plan.{Meaning}
 use Rattle.row_table.specs.Vacant.{all_entries, IsUnder, KeepsVacant}
 use Rattle.row_table.specs.Rows.{row_words, place_at, lock_of, generation_of}
-use Rattle.row_table.specs.Rule.{Seat, Table, levels_of, view, IsOne, row_part, hand_part, core_of, IsHeldRow, Knows, Holds}
+use Rattle.row_table.specs.Rule.{Seat, Table, levels_of, view, IsOne, row_part, hand_part, hand_state, granted_state, core_of, IsHeldRow, Knows, Holds}
 use Rattle.row_table.specs.Moves.{NotInHand}
 use Rattle.row_table.specs.Links.{with_word, newly_linked, with_link, word_set, link_set, entry_set, entry_cut, LinksHand, MaySetEntry, SetTells, MayUnlink, CutTells}
 use Rattle.row_table.proofs.Shown.{word_at, words_long}
+use Rattle.row_table.proofs.Hands.{rows_granted, states_kept}
 use Rattle.row_table.proofs.Views.{kept, pass_is, held_of_row, has_held, is_linked}
 use Rattle.row_table.proofs.Turns.{same_parts, contained_map}
 use Rattle.row_table.proofs.Spans.{level_of, below_is, entry_page}
@@ -78,14 +79,24 @@ under_row levels p q j low inside u =
 under_same : (p q : Place) → p ≡ q → 1 ≤ p.level → IsUnder p q
 under_same p q e lowest = subst (IsUnder p) e (record { lowest = lowest; level = omega arith; covers = λ space page h. h })
 
-module _ {R B E : Type 0} (M : Meaning R B E) where
-  with_word_row : (r i x : ℕ) (h : HeldRow R) → (with_word r i x h).row ≡ h.row
+-- a held row is of the same row after an entry word was stored, and after a link was
+module _ {R : Type 0} where
+  pub with_word_row : (r i x : ℕ) (h : HeldRow R) → (with_word r i x h).row ≡ h.row
   with_word_row r i x h = go (eqb h.row r)
     where
       go : (b : Bool) → (cond b (record h { words = set h.words i x }) h).row ≡ h.row
       go true = refl
       go false = refl
 
+  pub with_link_row : (linker : HeldRow R) (i child : ℕ) (h : HeldRow R) → (with_link linker i child h).row ≡ h.row
+  with_link_row linker i child h = go (eqb h.row child) (eqb h.row linker.row)
+    where
+      go : (a b : Bool) → (cond a (newly_linked linker i h) (cond b (record h { vacant = without i h.vacant }) h)).row ≡ h.row
+      go true b = refl
+      go false true = refl
+      go false false = refl
+
+module _ {R B E : Type 0} (M : Meaning R B E) where
   module _ (k : Layout) (first : B) (ws : List ℕ) (r i x : ℕ) (less : r < k.rows) (inside : i < 512) (near : entry_at r i < length ws) where
     abbrev us : List ℕ
     us = set ws (515 * r + i) x
@@ -113,7 +124,7 @@ module _ {R B E : Type 0} (M : Meaning R B E) where
     entry_knows : (b : B) (v : PassView R B E) (gs : List GrantedRow) (ds : List UnlinkedRow) (f : HeldRow R → HeldRow R) (hand : List HandRow) → Knows M k first ws b v
         → ((h : HeldRow R) → (f h).row ≡ h.row)
         → ((h : HeldRow R) → Contains v.rows h → IsHeldRow M k us b (record v { core = record v.core { granted = gs; unlinked = ds }; rows = map f v.rows; hand = hand }) (f h))
-        → map hand_part hand ≡ map (λ g. g.row) gs → ((y : HandRow) → Contains hand y → Contains v.hand y)
+        → map hand_state hand ≡ map granted_state gs → ((y : HandRow) → Contains hand y → Contains v.hand y)
         → ((h : HeldRow R) → Contains v.rows h → times_in_hand h.row (record v.core { granted = gs; unlinked = ds }) ≡ 0 → KeepsVacant M (levels_of k) b v.last (f h))
         → Knows M k first us b (record v { core = record v.core { granted = gs; unlinked = ds }; rows = map f v.rows; hand = hand })
     entry_knows b v gs ds f hand old same rows granted in_hand vacant = record {
@@ -142,14 +153,14 @@ module _ {R B E : Type 0} (M : Meaning R B E) where
           there = old.there;
           shown = words_here h e old.shown;
           place = place_stays h.row ∙ old.place;
-          generation = λ g e. generation_stays h.row ∙ old.generation g e;
+          generation = generation_stays h.row ∙ old.generation;
           agrees = λ z. let a = old.agrees (out z) in record { found = a.found; given = λ g c is. a.given g c (sym last ∙ is) };
         }))
         (λ ne. subst (IsHeldRow M k us b w) (sym (is_other h ne)) (record {
           there = old.there;
           shown = (shows h.row ne).words ∙ old.shown;
           place = place_stays h.row ∙ old.place;
-          generation = λ g e. generation_stays h.row ∙ old.generation g e;
+          generation = generation_stays h.row ∙ old.generation;
           agrees = λ z. let a = old.agrees (out z) in record { found = a.found; given = λ g c is. a.given g c (sym last ∙ is) };
         }))
 
@@ -228,7 +239,7 @@ module _ {R B E : Type 0} (M : Meaning R B E) where
       w = link_set v linker i x
 
       granted_child : Has (granted_rows v.core) child
-      granted_child = subst (Has (granted_rows v.core)) may.same_row (subst (λ (l : List ℕ). Has l may.hand_row.row) know.granted (has_part hand_part v.hand may.hand_row may.granted))
+      granted_child = subst (Has (granted_rows v.core)) may.same_row (subst (λ (l : List ℕ). Has l may.hand_row.row) (rows_granted v.hand v.core.granted know.granted) (has_part hand_part v.hand may.hand_row may.granted))
 
       child_out : 1 ≤ times_out c child
       child_out = let all = h.good.sizes.passes in let low = know.there in let hand = hand-le-out c v.number child (omega arith) in
@@ -257,12 +268,7 @@ module _ {R B E : Type 0} (M : Meaning R B E) where
           let b = times_kept (λ (g : GrantedRow). g.row) (λ y. not (eqb y child)) q v.core.granted (ap not (ne_eqb q child ne)) in omega arith
 
       link_row_same : (y : HeldRow R) → (with_link linker i child (with_word r i x y)).row ≡ y.row
-      link_row_same y = go (with_word r i x y) (eqb (with_word r i x y).row child) (eqb (with_word r i x y).row r) ∙ with_word_row r i x y
-        where
-          go : (z : HeldRow R) (a b : Bool) → (cond a (newly_linked linker i z) (cond b (record z { vacant = without i z.vacant }) z)).row ≡ z.row
-          go z true b = refl
-          go z false true = refl
-          go z false false = refl
+      link_row_same y = with_link_row linker i child (with_word r i x y) ∙ with_word_row r i x y
 
       -- the row that is linked, the row that links it, and the other rows
       of_child : (y : HeldRow R) → y.row ≡ child → with_link linker i child (with_word r i x y) ≡ newly_linked linker i y
@@ -296,7 +302,7 @@ module _ {R B E : Type 0} (M : Meaning R B E) where
             there = o.there;
             shown = (shows k first s.words r i x there inside (near_word i inside) y.row (λ f. child_not_here (sym e ∙ f))).words ∙ o.shown;
             place = place_stays k first s.words r i x there inside (near_word i inside) y.row ∙ o.place;
-            generation = λ g e. generation_stays k first s.words r i x there inside (near_word i inside) y.row ∙ o.generation g e;
+            generation = generation_stays k first s.words r i x there inside (near_word i inside) y.row ∙ o.generation;
             agrees = λ _. record {
               found = λ z u f. absurd (cc);
               given = λ vacant a last words u agrees. kept_below vacant a last y.place (under_same y.place (entry_place (levels_of k) linker.place i) (place_of_child y j e)
@@ -308,14 +314,14 @@ module _ {R B E : Type 0} (M : Meaning R B E) where
             there = o.there;
             shown = words_here k first s.words r i x there inside (near_word i inside) y e o.shown;
             place = place_stays k first s.words r i x there inside (near_word i inside) y.row ∙ o.place;
-            generation = λ g e. generation_stays k first s.words r i x there inside (near_word i inside) y.row ∙ o.generation g e;
+            generation = generation_stays k first s.words r i x there inside (near_word i inside) y.row ∙ o.generation;
             agrees = λ z. let a = o.agrees (still_out y.row nc z) in record { found = a.found; given = a.given };
           }))
           (λ nr. let o = know.rows y j in subst (IsHeldRow M k (set s.words (515 * r + i) x) h.book w) (sym (of_other y nc nr)) (record {
             there = o.there;
             shown = (shows k first s.words r i x there inside (near_word i inside) y.row nr).words ∙ o.shown;
             place = place_stays k first s.words r i x there inside (near_word i inside) y.row ∙ o.place;
-            generation = λ g e. generation_stays k first s.words r i x there inside (near_word i inside) y.row ∙ o.generation g e;
+            generation = generation_stays k first s.words r i x there inside (near_word i inside) y.row ∙ o.generation;
             agrees = λ z. let a = o.agrees (still_out y.row nc z) in record { found = a.found; given = a.given };
           })))
 
@@ -371,7 +377,7 @@ module _ {R B E : Type 0} (M : Meaning R B E) where
           (entry_knows k first s.words r i x there inside (near_word i inside) h.book v gs v.core.unlinked (λ y. with_link linker i child (with_word r i x y)) (filter (λ (y : HandRow). not (eqb y.row child)) v.hand) know
           link_row_same
           linked_row
-          (parts_without hand_part child v.hand ∙ (ap (without child) know.granted ∙ (sym (parts_without (λ (g : GrantedRow). g.row) child v.core.granted) ∙ ap (map (λ (g : GrantedRow). g.row)) (sym gs_is))))
+          (states_kept child v.hand v.core.granted know.granted ∙ ap (map granted_state) (sym gs_is))
           (λ y j. (kept (λ (u : HandRow). not (eqb u.row child)) v.hand y j).1)
           linked_vacant)
 

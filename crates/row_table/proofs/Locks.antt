@@ -58,7 +58,7 @@ module _ {R B E : Type 0} (M : Meaning R B E) where
         held = map-append row_part v.rows (g ∷ []) ∙ ap (λ (l : List ℕ). l ++ r ∷ []) now.held;
         rows = λ y i. ⊎_elim
             (λ (j : Contains v.rows y). let o = now.rows y j in record { there = o.there; shown = o.shown; place = o.place; generation = o.generation; agrees = o.agrees })
-            (λ (e : g ≡ y). subst (λ (u : HeldRow R). IsHeldRow M k us b w u) e (record { there = less; shown = z.words; place = z.place; generation = λ q is. (let same : generation_of ws r ≡ q = cc in z.generation ∙ same); agrees = λ _. record { found = λ _ y is. (let same : x ≡ y = cc in subst (λ (u : R). M.agrees b (place_at ws r) (row_words ws r) u) same agrees); given = λ f. absurd (cc) } }))
+            (λ (e : g ≡ y). subst (λ (u : HeldRow R). IsHeldRow M k us b w u) e (record { there = less; shown = z.words; place = z.place; generation = z.generation; agrees = λ _. record { found = λ _ y is. (let same : x ≡ y = cc in subst (λ (u : R). M.agrees b (place_at ws r) (row_words ws r) u) same agrees); given = λ f. absurd (cc) } }))
             (Contains-push_cases v.rows g y i);
         granted = now.granted;
         hand = now.hand;
@@ -181,6 +181,7 @@ module _ {R B E : Type 0} (M : Meaning R B E) where
               (λ z. absurd (miss z)),
               λ _. (
                 record {
+                  right = right_now M k first s h v mine;
                   place = place;
                   known = place_known M k first s h v mine r;
                   small = lock_small c r found k.passes (omega arith) (λ p has. held_below c p r h.good has) (h.good.locks.rows.each r less);

@@ -19,7 +19,7 @@ use Rattle.row_table.specs.Looks.{looked_at, Reads, LookSays, LookTells, MayLook
 use Rattle.row_table.proofs.Shown.{word_at}
 use Rattle.row_table.proofs.Frames.{moved}
 use Rattle.row_table.proofs.Views.{pass_is, has_held}
-use Rattle.row_table.proofs.Known.{place_known, link_below, link_leads, right_now}
+use Rattle.row_table.proofs.Known.{place_known, generation_known, link_below, link_leads, right_now}
 
 module _ {R B E : Type 0} (M : Meaning R B E) where
   read_is : (k : Layout) (first : B) (s : Table R B E) (h : Holds M k first s) (v : PassView R B E) → get_elem? h.passes v.number ≡ some v → (r i : ℕ) → r < k.rows → i < 512 → Reads v r i (get_or s.words (entry_at r i) 0)
@@ -28,6 +28,8 @@ module _ {R B E : Type 0} (M : Meaning R B E) where
         right = right_now M k first s h v mine;
         place = place_at s.words r;
         known = place_known M k first s h v mine r;
+        generation = generation_of s.words r;
+        known_generation = generation_known M k first s h v mine r;
         holds = λ x j same. let o = know.rows x j in
             ap (λ (q : ℕ). get_or s.words (entry_at q i) 0) (sym same) ∙ (sym (word_at s.words x.row i inside) ∙ ap (λ (ws : List ℕ). get_or ws i 0) o.shown);
         below = λ link. link_below M k first s h v mine r i less inside link;

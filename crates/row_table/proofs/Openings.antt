@@ -18,7 +18,7 @@ use Rattle.walk_core.specs.declared.event.SetPart.TheVariants.{Position, Generat
 use Rattle.walk_core.specs.declared.pass.PassCore.{PassCore}
 use Rattle.walk_core.specs.Words.{entry_at, lock_at, position_at, generation_at, position_word, place_shown, stale}
 use Rattle.walk_core.specs.Lists.{times, Has}
-use Rattle.walk_core.specs.Core.{Core, pass_at, granted_rows, times_in_hand, times_out}
+use Rattle.walk_core.specs.Core.{Core, pass_at, granted_rows, granted_at, set_up, times_in_hand, times_out}
 use Rattle.walk_core.specs.Events.{granted_after_part, pass_of, place_of, pass_after, free_after, limbo_after}
 use Rattle.walk_core.specs.Guards.{MayWrite}
 use Rattle.walk_core.proofs.RowLists.{granted_found}
@@ -33,12 +33,13 @@ use Rattle.row_table.specs.declared.plan.Content.TheVariants.{Row}
 use Rattle.row_table.specs.Plan.{Meaning}
 use Rattle.row_table.specs.Vacant.{blank_words, KeepsVacant}
 use Rattle.row_table.specs.Rows.{row_words, place_at, lock_of, generation_of}
-use Rattle.row_table.specs.Rule.{Seat, Table, levels_of, view, IsOne, row_part, hand_part, core_of, IsHeldRow, IsHandRow, Knows, Holds}
-use Rattle.row_table.specs.Openings.{with_place, with_number, opened_row, placed, numbered, opened, MaySetUp, PlaceTells, NumberTells, MayOpen, IsSetUp, OpenSays, OpenTells}
+use Rattle.row_table.specs.Rule.{Seat, Table, levels_of, view, IsOne, row_part, hand_part, hand_state, granted_state, core_of, IsHeldRow, IsHandRow, Knows, Holds}
+use Rattle.row_table.specs.Openings.{with_place, with_number, opened_row, placed, numbered, prepared, opened, MaySetUp, PlaceTells, NumberTells, MayOpen, IsSetUp, OpenSays, OpenTells}
 use Rattle.row_table.proofs.Shown.{same_on, lock_shows}
+use Rattle.row_table.proofs.Hands.{rows_granted, states_placed, states_numbered, found_set_up, set_in_hand}
 use Rattle.row_table.proofs.Frames.{moved_here, knows_shown, contents_locked}
 use Rattle.row_table.proofs.Views.{head_or_later, in_head, in_tail, pass_is}
-use Rattle.row_table.proofs.Turns.{same_parts, contained_map}
+use Rattle.row_table.proofs.Turns.{contained_map}
 use Rattle.row_table.proofs.Beside.{hand_stale, has_part, not_part, unique_part, hand_once, us, others_show, epochs_stay, moved_beside, no_other_hand}
 
 -- the words of a row without entries
@@ -87,11 +88,11 @@ module _ {R B E : Type 0} (M : Meaning R B E) where
   -- The row r of the hand v is changed by f, and nothing else of what the pass knows but the granted rows
 
   prepared_knows : (k : Layout) (first : B) (ws : List ℕ) (r j n : ℕ) → r < k.rows → j < 515 → j ≢ 512 → (b : B) (v : PassView R B E) (part : SetPart) (f : HandRow → HandRow)
-      → times r v.core.held ≡ 0 → Knows M k first ws b v → ((x : HandRow) → (f x).row ≡ x.row)
+      → times r v.core.held ≡ 0 → Knows M k first ws b v → ((x : HandRow) → (f x).row ≡ x.row) → map hand_state (map f v.hand) ≡ map granted_state (granted_after_part r part v.core.granted)
       → ((x : HandRow) → Contains v.hand x → IsHandRow M k (set ws (515 * r + j) n) b (f x))
       → ((x : HandRow) → Contains v.hand x → (p : Place) → (f x).place ≡ Some p → place_at (set ws (515 * r + j) n) x.row ≡ p)
       → Knows M k first (set ws (515 * r + j) n) b (record v { core = record v.core { granted = granted_after_part r part v.core.granted }; hand = map f v.hand })
-  prepared_knows k first ws r j n less near no_lock b v part f unheld old same_row hand placed_in =
+  prepared_knows k first ws r j n less near no_lock b v part f unheld old same_row states hand placed_in =
       let shows = others_show M k ws r j n less near no_lock in
       let same : (q : ℕ) → times_in_hand q (record v.core { granted = granted_after_part r part v.core.granted }) ≡ times_in_hand q v.core
       = λ q. (let t = ap (times q) (part_keeps_rows r part v.core.granted) in omega arith) in
@@ -101,8 +102,8 @@ module _ {R B E : Type 0} (M : Meaning R B E) where
         epoch = epochs_stay M k ws r j n less near no_lock v.number ∙ old.epoch;
         held = old.held;
         rows = λ x i. let o = old.rows x i in let z = shows x.row (not_part row_part v.rows v.core.held r old.held unheld x i) in
-            record { there = o.there; shown = z.words ∙ o.shown; place = z.place ∙ o.place; generation = λ g e. z.generation ∙ o.generation g e; agrees = λ out. o.agrees (sym (same x.row) ∙ out) };
-        granted = same_parts f hand_part hand_part same_row v.hand ∙ (old.granted ∙ sym (part_keeps_rows r part v.core.granted));
+            record { there = o.there; shown = z.words ∙ o.shown; place = z.place ∙ o.place; generation = z.generation ∙ o.generation; agrees = λ out. o.agrees (sym (same x.row) ∙ out) };
+        granted = states;
         hand = λ y i. let o = contained_map f v.hand y i in subst (IsHandRow M k (set ws (515 * r + j) n) b) o.2 (hand o.0 o.1);
         vacant = λ x i out. old.vacant x i (sym (same x.row) ∙ out);
         placed = λ y i. let o = contained_map f v.hand y i in
@@ -156,7 +157,7 @@ module _ {R B E : Type 0} (M : Meaning R B E) where
       let me' : get_elem? s.views id ≡ some (v ∷ []) = me ∙ ap some one.0 in
       let mine : get_elem? h.passes v.number ≡ some v = (h.seats id (v ∷ []) me' 0 v refl).0 in
       let know = h.knows v.number v mine in
-      let granted : Has (granted_rows v.core) r = subst (Has (granted_rows v.core)) same_row (subst (λ (l : List ℕ). Has l known.row) know.granted (has_part hand_part v.hand known in_hand)) in
+      let granted : Has (granted_rows v.core) r = subst (Has (granted_rows v.core)) same_row (subst (λ (l : List ℕ). Has l known.row) (rows_granted v.hand v.core.granted know.granted) (has_part hand_part v.hand known in_hand)) in
       let closed = closed_hand k first s h v mine r granted unheld in let less = closed.there in
       let wide = h.good.sizes.words in
       let near : position_at r < length s.words = omega arith in
@@ -171,7 +172,7 @@ module _ {R B E : Type 0} (M : Meaning R B E) where
         tt,
         set_part k first s h id v (Position shown) (with_place r shown) r 513 word me' refl (omega arith) (λ e. omega arith) (ap position_word path) granted unheld (ap (is_place (levels_of k)) path ∙ right_here)
             (subst (λ (g : ℕ). g < M.next_generation h.book) (sym (generation_stays s.words r word r)) (h.generations r less))
-            (prepared_knows k first s.words r 513 word less (omega arith) (λ e. omega arith) h.book v (Position shown) (with_place r shown) unheld know (with_place_row r shown)
+            (prepared_knows k first s.words r 513 word less (omega arith) (λ e. omega arith) h.book v (Position shown) (with_place r shown) unheld know (with_place_row r shown) (states_placed r shown v.hand v.core.granted know.granted)
             (λ x i. let o = know.hand x i in with_place_known k ws h.book r shown x (record { there = o.there; shown = generation_stays s.words r word x.row ∙ o.shown; below = o.below; fresh = o.fresh }))
             (λ x i p e. dite (ℕ_discrete x.row r)
             (λ z. let is : Some shown ≡ Some p = ap (λ (t : Bool). (cond t (record x { place = Some shown }) x).place) (sym (eq-eqb x.row r z)) ∙ e in let same : shown ≡ p = cc in ap (place_at ws) z ∙ (at ∙ same))
@@ -201,7 +202,7 @@ module _ {R B E : Type 0} (M : Meaning R B E) where
       let mine : get_elem? h.passes v.number ≡ some v = (h.seats id (v ∷ []) me' 0 v refl).0 in
       let know = h.knows v.number v mine in
       let c : Core = core_of M k s.words h.passes h.free h.book in
-      let granted : Has (granted_rows v.core) r = subst (Has (granted_rows v.core)) same_row (subst (λ (l : List ℕ). Has l known.row) know.granted (has_part hand_part v.hand known in_hand)) in
+      let granted : Has (granted_rows v.core) r = subst (Has (granted_rows v.core)) same_row (subst (λ (l : List ℕ). Has l known.row) (rows_granted v.hand v.core.granted know.granted) (has_part hand_part v.hand known in_hand)) in
       let closed = closed_hand k first s h v mine r granted unheld in let less = closed.there in
       let wide = h.good.sizes.words in
       let near : generation_at r < length s.words = omega arith in
@@ -216,7 +217,7 @@ module _ {R B E : Type 0} (M : Meaning R B E) where
         keeps,
         tt,
         set_part k first s h id v (Generation g) (with_number r g) r 514 g me' refl (omega arith) (λ e. omega arith) refl granted unheld (omega arith) (omega arith)
-            (prepared_knows k first s.words r 514 g less (omega arith) (λ e. omega arith) h.book v (Generation g) (with_number r g) unheld know (with_number_row r g)
+            (prepared_knows k first s.words r 514 g less (omega arith) (λ e. omega arith) h.book v (Generation g) (with_number r g) unheld know (with_number_row r g) (states_numbered r g v.hand v.core.granted know.granted)
             (λ x i. let o = know.hand x i in dite (ℕ_discrete x.row r)
             (λ z. let is = once x i z in subst (IsHandRow M k ws h.book) (ap (λ (t : Bool). cond t (record x { generation = g }) x) (sym (eq-eqb x.row r z)))
             (record { there = o.there; shown = ap (generation_of ws) z ∙ at; below = (let b = ap (λ (y : HandRow). y.high) is in omega arith); fresh = o.fresh }))
@@ -228,26 +229,49 @@ module _ {R B E : Type 0} (M : Meaning R B E) where
 
   -- Open row
 
-  opened_knows : (k : Layout) (first : B) (ws us : List ℕ) (b : B) (v : PassView R B E) (r : ℕ) → Rattle.row_table.proofs.Shown.ShowSame k ws us → r < k.rows → row_words ws r ≡ blank_words → 1 ≤ times_in_hand r v.core
-      → Knows M k first ws b v → Knows M k first us b (opened v r (place_at ws r))
-  opened_knows k first ws us b v r shows less blank in_hand old =
+  -- what the words show of a row that was set up is what the hand says of it
+  record ShowsSetUp (words : List ℕ) (v : PassView R B E) (r : ℕ) : Type 0 where
+    pub at : IsSetUp v r
+    pub place : place_at words r ≡ at.place
+    pub generation : generation_of words r ≡ at.known.generation
+
+  set_up_row : (k : Layout) (first : B) (s : Table R B E) (h : Holds M k first s) (v : PassView R B E) → get_elem? h.passes v.number ≡ some v → (r : ℕ) → granted_at v.core r ≡ set_up r → ShowsSetUp s.words v r
+  set_up_row k first s h v mine r both_set =
+      let know = h.knows v.number v mine in
+      let its = set_in_hand r v.hand v.core.granted know.granted both_set in let x : HandRow = its.0 in
+      record {
+        at = record {
+          known = x;
+          in_hand = its.1;
+          same_row = its.2;
+          only = λ y i e. unique_part hand_part v.hand y x i its.1 (e ∙ sym its.2) (hand_once M k first s h v mine y.row);
+          place = its.3.0;
+          is_set = its.3.1;
+        };
+        place = ap (place_at s.words) (sym its.2) ∙ know.placed x its.1 its.3.0 its.3.1;
+        generation = ap (generation_of s.words) (sym its.2) ∙ (know.hand x its.1).shown;
+      }
+
+  opened_knows : (k : Layout) (first : B) (ws us : List ℕ) (b : B) (v : PassView R B E) (r : ℕ) (q : Place) (g : ℕ) → place_at ws r ≡ q → generation_of ws r ≡ g → Rattle.row_table.proofs.Shown.ShowSame k ws us → r < k.rows → row_words ws r ≡ blank_words → 1 ≤ times_in_hand r v.core
+      → Knows M k first ws b v → Knows M k first us b (opened v r q g)
+  opened_knows k first ws us b v r q g at_place with_generation shows less blank in_hand old =
       let now = knows_shown M k first ws us b v shows old in
-      let g : HeldRow R = opened_row r (place_at ws r) in
-      let w : PassView R B E = opened v r (place_at ws r) in
+      let x : HeldRow R = opened_row r q g in
+      let w : PassView R B E = opened v r q g in
       let z = shows.rows r less in record {
         there = now.there;
         layout = now.layout;
         epoch = now.epoch;
-        held = map-append row_part v.rows (g ∷ []) ∙ ap (λ (l : List ℕ). l ++ r ∷ []) now.held;
+        held = map-append row_part v.rows (x ∷ []) ∙ ap (λ (l : List ℕ). l ++ r ∷ []) now.held;
         rows = λ y i. ⊎_elim
             (λ (j : Contains v.rows y). let o = now.rows y j in record { there = o.there; shown = o.shown; place = o.place; generation = o.generation; agrees = o.agrees })
-            (λ (e : g ≡ y). subst (λ (u : HeldRow R). IsHeldRow M k us b w u) e (record { there = less; shown = z.words ∙ blank; place = z.place; generation = λ q is. absurd (cc); agrees = λ out. absurd (omega arith) }))
-            (Contains-push_cases v.rows g y i);
+            (λ (e : x ≡ y). subst (λ (u : HeldRow R). IsHeldRow M k us b w u) e (record { there = less; shown = z.words ∙ blank; place = z.place ∙ at_place; generation = z.generation ∙ with_generation; agrees = λ out. absurd (omega arith) }))
+            (Contains-push_cases v.rows x y i);
         granted = now.granted;
         hand = now.hand;
         vacant = λ y i. ⊎_elim (now.vacant y)
-            (λ (e : g ≡ y). subst (λ (u : HeldRow R). times_in_hand u.row v.core ≡ 0 → KeepsVacant M (levels_of k) b v.last u) e (λ out. absurd (omega arith)))
-            (Contains-push_cases v.rows g y i);
+            (λ (e : x ≡ y). subst (λ (u : HeldRow R). times_in_hand u.row v.core ≡ 0 → KeepsVacant M (levels_of k) b v.last u) e (λ out. absurd (omega arith)))
+            (Contains-push_cases v.rows x y i);
         placed = now.placed;
         found = now.found;
         origin = now.origin;
@@ -273,9 +297,8 @@ module _ {R B E : Type 0} (M : Meaning R B E) where
       let out : 1 ≤ times_out c r = (let part = hand-le-out c v.number r (omega arith) in omega arith) in
       let shows = lock_shows k s.words r (n + 1) less in
       let t = h.contents.others r less closed.closed in
-      let place : Place = place_at s.words r in
-      let w : PassView R B E = opened v r place in
-      let at : IsSetUp v r = record { place = place; same = λ x i e p is. ap (place_at s.words) (sym e) ∙ know.placed x i p is } in (
+      let found = set_up_row k first s h v mine r may.both_set in let at = found.at in
+      let w : PassView R B E = opened v r at.place at.known.generation in (
         w ∷ [],
         takes r (Some (Row t.0)),
         t.1,
@@ -284,8 +307,8 @@ module _ {R B E : Type 0} (M : Meaning R B E) where
             (λ q ne. set_else s.homes r q none ne)
             (record { linked = λ z. absurd (omega arith); others = λ z. absurd (omega arith) }))
             shows
-            (opened_knows k first s.words (set s.words (lock_at r) (n + 1)) h.book v r shows less (blank_is s.words r (λ i inside. h.good.links.empty r i less inside out)) hand know),
-        λ row same. let e : r ≡ row = omega arith in subst (OpenSays M m (w ∷ [], (r, Some (Row t.0)) ∷ m.1)) e (at, t.0, t.2, refl),
+            (opened_knows k first s.words (set s.words (lock_at r) (n + 1)) h.book v r at.place at.known.generation found.place found.generation shows less (blank_is s.words r (λ i inside. h.good.links.empty r i less inside out)) hand know),
+        λ row same. let e : r ≡ row = omega arith in subst (OpenSays M m (w ∷ [], (r, Some (Row t.0)) ∷ m.1)) e (at, t.0, t.2, refl {a = (w ∷ [], (r, Some (Row t.0)) ∷ m.1)}),
       )
 
   -- the same where the place and the number are known by equations
@@ -310,6 +333,13 @@ module _ {R B E : Type 0} (M : Meaning R B E) where
       (opens k first slots id m n r one may))
 
   -- What the calls need
+
+  -- a row that was set up may be opened
+  pub may_open : (v : PassView R B E) (r n : ℕ) (q : Place) (known : HandRow) → map hand_part v.hand ≡ granted_rows v.core → Contains v.hand known → known.row ≡ r → times r v.core.held ≡ 0 → MayOpen (prepared v r q n) r
+  may_open v r n q known rows in_hand same_row closed = record {
+    both_set = found_set_up r n q v.core.granted (subst (Has (granted_rows v.core)) same_row (subst (λ (l : List ℕ). Has l known.row) rows (has_part hand_part v.hand known in_hand)));
+    closed = closed;
+  }
 
   with_place_same : (r : ℕ) (q : Place) (x : HandRow) → ((with_place r q x).generation ≡ x.generation) × ((with_place r q x).high ≡ x.high)
   with_place_same r q x = go (eqb x.row r)

@@ -1,8 +1,8 @@
 -- The sizes that a pass keeps, after steps on rows of its hand and on entries.
-use Rattle.std.proofs.Common.{◌≡◌, ℕ, ◌+◌, ◌<◌, eqb, not, cond, true, false, Bool, List, map, length, get_or, set, sym, refl, ap, ◌∙◌, subst, ⊎_elim, arith, length-set, get_or-set_same, get_or-set_other}
+use Rattle.std.proofs.Common.{◌≡◌, ℕ, ◌+◌, ◌<◌, eqb, not, cond, true, false, Bool, List, [], ◌∷◌, ◌++◌, map, length, get_or, set, sym, refl, ap, ◌∙◌, subst, ⊎_elim, arith, length-set, get_or-set_same, get_or-set_other}
 use Rattle.std.specs.List.{Contains, filter}
 use Rattle.std.proofs.lemmas.List.Elements.{Contains-push_cases}
-use Rattle.std.proofs.lemmas.List.{get_or_past}
+use Rattle.std.proofs.lemmas.List.{get_or_past, map-append}
 use Rattle.std.proofs.lemmas.Bool.{cases_lt}
 use mathlib.Core.Logic.{dite}
 use native.Mathlib.Decide.{ℕ_discrete}
@@ -19,15 +19,19 @@ use Rattle.walk_core.proofs.KeepsRows.{part_keeps_rows}
 use Rattle.walk_core.proofs.Spellings.{zero_no_link}
 use Rattle.row_table.specs.declared.view.PassView.{PassView}
 use Rattle.row_table.specs.declared.view.HeldRow.{HeldRow}
+use Rattle.row_table.specs.declared.view.HandRow.{HandRow}
+use Rattle.row_table.specs.Rule.{row_part, hand_part}
 use Rattle.row_table.specs.Known.{LinksBelow, IsSized}
-use Rattle.row_table.specs.Openings.{opened_row, opened, prepared, MayOpen}
+use Rattle.row_table.specs.Openings.{with_place, opened_row, opened, prepared, MayOpen}
 use Rattle.row_table.specs.Links.{with_word, newly_linked, with_link, word_set, link_set, entry_set, entry_cut}
 use Rattle.row_layout.specs.declared.places.Layout.{Layout}
 use Rattle.row_layout.specs.Places.{word_count}
-use Rattle.row_table.proofs.Turns.{contained_map}
+use Rattle.row_table.proofs.Hands.{rows_placed, rows_numbered}
+use Rattle.row_table.proofs.Beside.{has_part}
+use Rattle.row_table.proofs.Turns.{same_parts, contained_map}
 use Rattle.row_table.proofs.Sizes.{same_sizes}
 use Rattle.row_table.proofs.Openings.{blank_zero}
-use Rattle.row_table.proofs.Links.{parts_without}
+use Rattle.row_table.proofs.Links.{parts_without, with_word_row, with_link_row}
 
 -- a row that is granted after an entry was stored was so before
 entry_grants : (x : ℕ) (gs : List GrantedRow) (r : ℕ) → Has (map (λ (g : GrantedRow). g.row) (granted_after_entry x gs)) r → Has (map (λ (g : GrantedRow). g.row) gs) r
@@ -49,7 +53,11 @@ entry_same {R} {B} {E} v linker i x = go (is_link x)
 
 module _ {R B E : Type 0} {n rows : ℕ} {id : TableId} {v : PassView R B E} (old : IsSized n rows id v) where
   pub granted_there : (other : TableId) (k : Layout) → id ≡ other → other.words ≡ word_count k → other.slots ≡ k.rows + 1 → (r : ℕ) → Has (granted_rows v.core) r → r < k.rows
-  granted_there other k same words slots r has = let less = old.granted r has in let all = (same_sizes old other k same words slots).0 in omega arith
+  granted_there other k same words slots r has = let less = old.granted.1 r has in let all = (same_sizes old other k same words slots).0 in omega arith
+
+  pub hand_there : (other : TableId) (k : Layout) → id ≡ other → other.words ≡ word_count k → other.slots ≡ k.rows + 1 → (r : ℕ) (known : HandRow) → Contains v.hand known → known.row ≡ r → r < k.rows
+  hand_there other k same words slots r known in_hand same_row = granted_there other k same words slots r
+      (subst (Has (granted_rows v.core)) same_row (subst (λ (l : List ℕ). Has l known.row) old.granted.0 (has_part hand_part v.hand known in_hand)))
 
   pub open_there : (other : TableId) (k : Layout) → id ≡ other → other.words ≡ word_count k → other.slots ≡ k.rows + 1 → (r : ℕ) → MayOpen v r → r < k.rows
   open_there other k same words slots r may = granted_there other k same words slots r (granted_found r v.core.granted (record { row = r; has_position = true; has_generation = true }) may.both_set)
@@ -60,23 +68,27 @@ module _ {R B E : Type 0} {n rows : ℕ} {id : TableId} {v : PassView R B E} (ol
     words = old.words;
     rows_are = old.rows_are;
     number = old.number;
+    held_rows = old.held_rows;
     stand = old.stand;
     links = old.links;
-    granted = λ q has. old.granted q (subst (λ (l : List ℕ). Has l q)
-        (part_keeps_rows r (Generation generation) (granted_after_part r (Position place) v.core.granted) ∙ part_keeps_rows r (Position place) v.core.granted) has);
+    granted = let same = part_keeps_rows r (Generation generation) (granted_after_part r (Position place) v.core.granted) ∙ part_keeps_rows r (Position place) v.core.granted in (
+      rows_numbered r generation (map (with_place r place) v.hand) ∙ (rows_placed r place v.hand ∙ (old.granted.0 ∙ sym same)),
+      λ q has. old.granted.1 q (subst (λ (l : List ℕ). Has l q) same has),
+    );
   }
 
-  pub sized_opened : (r : ℕ) (place : Place) → IsSized n rows id (opened v r place)
-  sized_opened r place = record {
+  pub sized_opened : (r : ℕ) (place : Place) (generation : ℕ) → IsSized n rows id (opened v r place generation)
+  sized_opened r place generation = record {
     slots = old.slots;
     words = old.words;
     rows_are = old.rows_are;
     number = old.number;
+    held_rows = map-append row_part v.rows (opened_row r place generation ∷ []) ∙ ap (λ (l : List ℕ). l ++ r ∷ []) old.held_rows;
     stand = old.stand;
     links = λ h i. ⊎_elim (λ (j : Contains v.rows h). old.links h j)
-        (λ (e : opened_row r place ≡ h). subst (λ (y : HeldRow R). LinksBelow rows y.words) e
+        (λ (e : opened_row r place generation ≡ h). subst (λ (y : HeldRow R). LinksBelow rows y.words) e
         (λ j inside link. let clash : true ≡ false = sym link ∙ (ap is_link (blank_zero j inside) ∙ zero_no_link) in absurd (cc)))
-        (Contains-push_cases v.rows (opened_row r place) h i);
+        (Contains-push_cases v.rows (opened_row r place generation) h i);
     granted = old.granted;
   }
 
@@ -106,27 +118,34 @@ module _ {R B E : Type 0} {n rows : ℕ} {id : TableId} {v : PassView R B E} (ol
       go false false = all
 
   pub sized_entry : (linker : HeldRow R) (i x : ℕ) → (is_link x ≡ true → link_row x < v.layout.rows) → IsSized n rows id (entry_set v linker i x)
-  sized_entry linker i x below = go (is_link x)
+  sized_entry linker i x below = go (is_link x) refl
     where
       all_below : is_link x ≡ true → link_row x < rows
       all_below link = let less = below link in let same = old.rows_are in omega arith
 
-      go : (t : Bool) → IsSized n rows id (cond t (link_set v linker i x) (word_set v linker.row i x))
-      go true = record {
+      go : (t : Bool) → is_link x ≡ t → IsSized n rows id (cond t (link_set v linker i x) (word_set v linker.row i x))
+      go true link = record {
         slots = old.slots;
         words = old.words;
         rows_are = old.rows_are;
         number = old.number;
+        held_rows = same_parts (λ (y : HeldRow R). with_link linker i (link_row x) (with_word linker.row i x y)) row_part row_part
+            (λ y. with_link_row linker i (link_row x) (with_word linker.row i x y) ∙ with_word_row linker.row i x y) v.rows ∙ old.held_rows;
         stand = old.stand;
         links = λ h j. let o = contained_map (λ (y : HeldRow R). with_link linker i (link_row x) (with_word linker.row i x y)) v.rows h j in
             subst (λ (y : HeldRow R). LinksBelow rows y.words) o.2 (with_link_below linker i (link_row x) (with_word linker.row i x o.0) (with_word_below linker.row i x o.0 all_below (old.links o.0 o.1)));
-        granted = λ r has. old.granted r (entry_grants x v.core.granted r has);
+        granted = (
+          parts_without hand_part (link_row x) v.hand ∙ (ap (without (link_row x)) old.granted.0 ∙ (sym (parts_without (λ (g : GrantedRow). g.row) (link_row x) v.core.granted)
+              ∙ ap (λ (t : Bool). map (λ (g : GrantedRow). g.row) (cond t (filter (λ (g : GrantedRow). not (eqb g.row (link_row x))) v.core.granted) v.core.granted)) (sym link))),
+          λ r has. old.granted.1 r (entry_grants x v.core.granted r has),
+        );
       }
-      go false = record {
+      go false _ = record {
         slots = old.slots;
         words = old.words;
         rows_are = old.rows_are;
         number = old.number;
+        held_rows = same_parts (with_word linker.row i x) row_part row_part (with_word_row linker.row i x) v.rows ∙ old.held_rows;
         stand = old.stand;
         links = λ h j. let o = contained_map (with_word linker.row i x) v.rows h j in
             subst (λ (y : HeldRow R). LinksBelow rows y.words) o.2 (with_word_below linker.row i x o.0 all_below (old.links o.0 o.1));
@@ -139,6 +158,7 @@ module _ {R B E : Type 0} {n rows : ℕ} {id : TableId} {v : PassView R B E} (ol
     words = old.words;
     rows_are = old.rows_are;
     number = old.number;
+    held_rows = same_parts (with_word linker.row i 0) row_part row_part (with_word_row linker.row i 0) v.rows ∙ old.held_rows;
     stand = old.stand;
     links = λ h j. let o = contained_map (with_word linker.row i 0) v.rows h j in
         subst (λ (y : HeldRow R). LinksBelow rows y.words) o.2

@@ -1,5 +1,5 @@
 -- The sizes that a pass keeps, after each step.
-use Rattle.std.proofs.Common.{◌≡◌, ℕ, ◌+◌, ◌<◌, ◌&&◌, Bool, true, false, cond, eqb, not, List, ◌++◌, map, sym, refl, ap, ◌∙◌, subst, ⊎_elim, arith, Option, Some, None}
+use Rattle.std.proofs.Common.{◌≡◌, ℕ, ◌+◌, ◌<◌, ◌&&◌, Bool, true, false, cond, eqb, not, List, [], ◌∷◌, ◌++◌, map, sym, refl, ap, ◌∙◌, subst, ⊎_elim, arith, Option, Some, None}
 use Rattle.std.specs.List.{Contains}
 use Rattle.std.proofs.lemmas.List.Elements.{Contains-push_cases}
 use Rattle.std.proofs.lemmas.Bool.{and_parts, cases_lt}
@@ -12,7 +12,7 @@ use Rattle.table_place.specs.Place.{entry_place}
 use Rattle.walk_core.specs.declared.pass.Stand.{Stand}
 use Rattle.walk_core.specs.Words.{is_link, link_row, link_generation}
 use Rattle.walk_core.specs.declared.pass.GrantedRow.{GrantedRow}
-use Rattle.walk_core.specs.Lists.{Has, times}
+use Rattle.walk_core.specs.Lists.{Has, times, without}
 use Rattle.walk_core.specs.Core.{granted_rows}
 use Rattle.walk_core.specs.Events.{top, stand_after_look, newly_granted}
 use Rattle.walk_core.proofs.RowLists.{times-nil, times-append}
@@ -22,17 +22,17 @@ use Rattle.row_layout.specs.Places.{word_count}
 use Rattle.row_table.specs.declared.view.PassView.{PassView}
 use Rattle.row_table.specs.declared.view.HeldRow.{HeldRow}
 use Rattle.row_table.specs.Plan.{Meaning}
-use Rattle.row_table.specs.Rule.{levels_of, unmoved}
+use Rattle.row_table.specs.Rule.{levels_of, row_part, hand_part, unmoved}
 use Rattle.row_table.specs.Known.{LinksRow, LinksBelow, IsSized}
 use Rattle.row_table.specs.Moves.{grabbed, looked, got, released, MayGrab}
 use Rattle.row_table.specs.Looks.{looked_at, MayLook}
 use Rattle.row_table.specs.Crossings.{entered, left}
-use Rattle.row_table.specs.Books.{given, taken_rows, turned, waited, gave}
+use Rattle.row_table.specs.Books.{given, hand_rows, taken_rows, turned, waited, gave}
 use Rattle.row_table.specs.Stack.{AreRows}
-use Rattle.row_table.proofs.Views.{kept}
+use Rattle.row_table.proofs.Views.{kept, has_row, rows_without}
 use Rattle.row_table.proofs.Turns.{same_parts, whole, contained_map}
 
-some_is : {X : Type 0} (x y : X) → Some x ≡ Some y → x ≡ y
+pub some_is : {X : Type 0} (x y : X) → Some x ≡ Some y → x ≡ y
 some_is x y e = cc
 
 none_is : {X : Type 0} {F : Type 0} (x : X) → None ≡ Some x → F
@@ -90,13 +90,20 @@ module _ {R B E : Type 0} {n rows : ℕ} {id : TableId} {v : PassView R B E} (ol
   pub held_there : AreRows rows v.core.held → (other : TableId) (k : Layout) → id ≡ other → other.words ≡ word_count k → other.slots ≡ k.rows + 1 → (r : ℕ) → Has v.core.held r → r < k.rows
   held_there are other k same words slots r has = let all = (same_sizes other k same words slots).0 in ⊎_elim (λ (less : r < rows). omega arith) (λ past. let none = (are r).1 past in absurd (omega arith)) (cases_lt r rows)
 
+  -- a row of the view is held, and so it is there
+  pub view_held : (h : HeldRow R) → Contains v.rows h → (r : ℕ) → h.row ≡ r → Has v.core.held r
+  view_held h i r is = subst (Has v.core.held) is (subst (λ (l : List ℕ). Has l h.row) old.held_rows (has_row v.rows h i))
+
+  pub view_there : AreRows rows v.core.held → (other : TableId) (k : Layout) → id ≡ other → other.words ≡ word_count k → other.slots ≡ k.rows + 1 → (h : HeldRow R) → Contains v.rows h → (r : ℕ) → h.row ≡ r → r < k.rows
+  view_there are other k same words slots h i r is = held_there are other k same words slots r (view_held h i r is)
+
   -- after each step
 
   pub sized_enter : 0 < rows → IsSized n rows id (entered v)
-  sized_enter some_rows = record { slots = old.slots; words = old.words; rows_are = old.rows_are; number = old.number; stand = λ s is. subst (λ (y : Stand). y.row < rows) (some_is top s is) some_rows; links = old.links; granted = old.granted }
+  sized_enter some_rows = record { slots = old.slots; words = old.words; rows_are = old.rows_are; number = old.number; held_rows = old.held_rows; stand = λ s is. subst (λ (y : Stand). y.row < rows) (some_is top s is) some_rows; links = old.links; granted = old.granted }
 
   pub sized_leave : IsSized n rows id (left v)
-  sized_leave = record { slots = old.slots; words = old.words; rows_are = old.rows_are; number = old.number; stand = λ s is. none_is s is; links = old.links; granted = old.granted }
+  sized_leave = record { slots = old.slots; words = old.words; rows_are = old.rows_are; number = old.number; held_rows = old.held_rows; stand = λ s is. none_is s is; links = old.links; granted = old.granted }
 
   pub sized_look : (r i w : ℕ) (place : Place) → (is_link w ≡ true → link_row w < v.layout.rows) → IsSized n rows id (looked_at v r place i w)
   sized_look r i w place below = record {
@@ -104,13 +111,14 @@ module _ {R B E : Type 0} {n rows : ℕ} {id : TableId} {v : PassView R B E} (ol
     words = old.words;
     rows_are = old.rows_are;
     number = old.number;
+    held_rows = old.held_rows;
     stand = stands_after rows (levels_of v.layout) r i w v.core.stand old.stand (λ link. let less = below link in let same = old.rows_are in omega arith);
     links = old.links;
     granted = old.granted;
   }
 
   pub sized_miss : (r : ℕ) (place : Place) (w : ℕ) → IsSized n rows id (looked v r place None w)
-  sized_miss r place w = record { slots = old.slots; words = old.words; rows_are = old.rows_are; number = old.number; stand = old.stand; links = old.links; granted = old.granted }
+  sized_miss r place w = record { slots = old.slots; words = old.words; rows_are = old.rows_are; number = old.number; held_rows = old.held_rows; stand = old.stand; links = old.links; granted = old.granted }
 
   pub sized_got : (r : ℕ) (place : Place) (g : ℕ) (words : List ℕ) (x : R) → LinksBelow v.layout.rows words → IsSized n rows id (got v r place g words x)
   sized_got r place g words x below = record {
@@ -118,6 +126,7 @@ module _ {R B E : Type 0} {n rows : ℕ} {id : TableId} {v : PassView R B E} (ol
     words = old.words;
     rows_are = old.rows_are;
     number = old.number;
+    held_rows = map-append row_part v.rows (grabbed r place g words x ∷ []) ∙ ap (λ (l : List ℕ). l ++ r ∷ []) old.held_rows;
     stand = old.stand;
     links = λ h i. ⊎_elim (λ (j : Contains v.rows h). old.links h j)
         (λ (e : grabbed r place g words x ≡ h). subst (λ (y : HeldRow R). LinksBelow rows y.words) e (subst (λ (m : ℕ). LinksBelow m words) (sym old.rows_are) below))
@@ -131,17 +140,18 @@ module _ {R B E : Type 0} {n rows : ℕ} {id : TableId} {v : PassView R B E} (ol
     words = old.words;
     rows_are = old.rows_are;
     number = old.number;
+    held_rows = rows_without r v.rows ∙ ap (without r) old.held_rows;
     stand = old.stand;
     links = λ h i. old.links h (kept (λ (u : HeldRow R). not (eqb u.row r)) v.rows h i).1;
     granted = old.granted;
   }
 
   pub sized_waited : (w : ℕ) → IsSized n rows id (waited v w)
-  sized_waited w = record { slots = old.slots; words = old.words; rows_are = old.rows_are; number = old.number; stand = old.stand; links = old.links; granted = old.granted }
+  sized_waited w = record { slots = old.slots; words = old.words; rows_are = old.rows_are; number = old.number; held_rows = old.held_rows; stand = old.stand; links = old.links; granted = old.granted }
 
   module _ (M : Meaning R B E) where
     pub sized_turned : (book : B) → IsSized n rows id (turned M v book)
-    sized_turned book = record { slots = old.slots; words = old.words; rows_are = old.rows_are; number = old.number; stand = old.stand; links = old.links; granted = old.granted }
+    sized_turned book = record { slots = old.slots; words = old.words; rows_are = old.rows_are; number = old.number; held_rows = old.held_rows; stand = old.stand; links = old.links; granted = old.granted }
 
     pub sized_gave : (a b : B) (generation : ℕ → ℕ) → ((r : ℕ) → Has (taken_rows M a b) r → r < v.layout.rows) → IsSized n rows id (gave M v a b generation)
     sized_gave a b generation taken = record {
@@ -149,12 +159,18 @@ module _ {R B E : Type 0} {n rows : ℕ} {id : TableId} {v : PassView R B E} (ol
       words = old.words;
       rows_are = old.rows_are;
       number = old.number;
+      held_rows = same_parts given row_part row_part (λ x. refl) v.rows ∙ old.held_rows;
       stand = old.stand;
       links = λ h i. let o = contained_map given v.rows h i in subst (λ (y : HeldRow R). LinksBelow rows y.words) o.2 (old.links o.0 o.1);
-      granted = λ r has. let both = ap (times r) (granted_more v.core.granted (taken_rows M a b)) in let all = times-append r (granted_rows v.core) (taken_rows M a b) in dite (ℕ_discrete (times r (granted_rows v.core)) 0)
-          (λ none_before. let less = taken r (omega arith) in let same = old.rows_are in omega arith)
-          (λ before. old.granted r (omega arith));
+      granted = (
+        map-append hand_part v.hand (hand_rows M generation a b (taken_rows M a b)) ∙ ((λ i. old.granted.0 i
+            ++ (same_parts (λ r. record { row = r; generation = generation r; low = M.next_generation a; high = M.next_generation b; place = None }) hand_part (λ (x : ℕ). x) (λ x. refl) (taken_rows M a b) ∙ whole (taken_rows M a b)) i)
+            ∙ sym (granted_more v.core.granted (taken_rows M a b))),
+        λ r has. let both = ap (times r) (granted_more v.core.granted (taken_rows M a b)) in let all = times-append r (granted_rows v.core) (taken_rows M a b) in dite (ℕ_discrete (times r (granted_rows v.core)) 0)
+            (λ none_before. let less = taken r (omega arith) in let same = old.rows_are in omega arith)
+            (λ before. old.granted.1 r (omega arith)),
+      );
     }
 
 pub sized_new : {R B E : Type 0} (n rows : ℕ) (id : TableId) (k : Layout) (origin : Option B) → id.slots ≡ rows + 1 → id.words ≡ word_count k → rows ≡ k.rows → n < k.passes → IsSized n rows id (unmoved {R = R} {B = B} {E = E} k origin n)
-sized_new n rows id k origin slots words same less = record { slots = slots; words = words; rows_are = same; number = less; stand = λ s is. none_is s is; links = λ h i. let z = i.1 in absurd (omega arith); granted = λ r has. let z = times-nil r in absurd (omega arith) }
+sized_new n rows id k origin slots words same less = record { slots = slots; words = words; rows_are = same; number = less; held_rows = refl; stand = λ s is. none_is s is; links = λ h i. let z = i.1 in absurd (omega arith); granted = (refl, λ r has. let z = times-nil r in absurd (omega arith)) }

@@ -125,7 +125,7 @@ module _ {c : Core} (g : Good c) where
       entry_page c.levels (place_in c p.row) p.index space page (omega arith) (row_low p.row ne p.linked) p.inside (ap (λ (x : Place). has_page x space page) (sym p.place) ∙ h))
 
   -- the parents of two rows at one position, where the rows above them are told apart by their positions
-  same_parents : (a b : ℕ) → (p : Parent c a) (q : Parent c b) → place_in c a ≡ place_in c b → (place_in c p.row ≡ place_in c q.row → p.row ≡ q.row) → (p.row ≡ q.row) × (p.index ≡ q.index)
+  pub same_parents : (a b : ℕ) → (p : Parent c a) (q : Parent c b) → place_in c a ≡ place_in c b → (place_in c p.row ≡ place_in c q.row → p.row ≡ q.row) → (p.row ≡ q.row) × (p.index ≡ q.index)
   same_parents a b p q same rec =
       let i = p.inside in let j = q.inside in let level = ap (λ (x : Place). x.level) same in
       dite (ℕ_discrete p.row 0)

@@ -24,30 +24,30 @@ use Rattle.row_table.proofs.Beside.{has_part}
 
 -- Lists
 
-filter_all : {X : Type 0} (t : X → Bool) (xs : List X) → ((x : X) → Contains xs x → t x ≡ true) → filter t xs ≡ xs
+pub filter_all : {X : Type 0} (t : X → Bool) (xs : List X) → ((x : X) → Contains xs x → t x ≡ true) → filter t xs ≡ xs
 filter_all t [] all = refl
 filter_all t (x ∷ xs) all = ap (λ (b : Bool). cond b (x ∷ filter t xs) (filter t xs)) (all x (in_head x xs)) ∙ ap (λ l. x ∷ l) (filter_all t xs (λ y i. all y (in_tail x xs y i)))
 
-filter_none : {X : Type 0} (t : X → Bool) (xs : List X) → ((x : X) → Contains xs x → t x ≡ false) → filter t xs ≡ []
+pub filter_none : {X : Type 0} (t : X → Bool) (xs : List X) → ((x : X) → Contains xs x → t x ≡ false) → filter t xs ≡ []
 filter_none t [] none = refl
 filter_none t (x ∷ xs) none = ap (λ (b : Bool). cond b (x ∷ filter t xs) (filter t xs)) (none x (in_head x xs)) ∙ filter_none t xs (λ y i. none y (in_tail x xs y i))
 
-minus_has : (ts xs : List ℕ) (r : ℕ) → Has (minus ts xs) r → Has xs r
+pub minus_has : (ts xs : List ℕ) (r : ℕ) → Has (minus ts xs) r → Has xs r
 minus_has ts xs r has = dite (ℕ_discrete (times r ts) 0)
     (λ z. let same = times_minus_other ts xs r z in omega arith)
     (λ nz. let zero = times_minus_same ts xs r (omega arith) in absurd (omega arith))
 
-minus_none : (ts xs : List ℕ) → ((x : ℕ) → Contains xs x → Has ts x) → minus ts xs ≡ []
+pub minus_none : (ts xs : List ℕ) → ((x : ℕ) → Contains xs x → Has ts x) → minus ts xs ≡ []
 minus_none ts xs all = filter_none (λ x. not (among ts x)) xs (λ x i. ap not (among_true ts x (all x i)))
 
-empty_journal : (e : Unit {0}) {F : Type 0} → [] ≡ e ∷ [] → F
+pub empty_journal : (e : Unit {0}) {F : Type 0} → [] ≡ e ∷ [] → F
 empty_journal e is = let long = ap length is in absurd (omega arith)
 
 abbrev put_row : PutRow → ℕ
 put_row k = k.row
 
 -- the rows in limbo, where nothing is swept
-limbo_same : (swept : List ℕ) (limbo : List PutRow) → swept ≡ [] → filter (λ k. not (among swept k.row)) limbo ≡ limbo
+pub limbo_same : (swept : List ℕ) (limbo : List PutRow) → swept ≡ [] → filter (λ k. not (among swept k.row)) limbo ≡ limbo
 limbo_same swept limbo none = filter_all (λ k. not (among swept k.row)) limbo (λ k i. ap not (among_false swept k.row (ap (times k.row) none ∙ times-nil k.row)))
 
 -- A give that takes one row

@@ -1,5 +1,5 @@
--- What the tests' plan lets a pass do.
-use Rattle.std.proofs.Common.{◌≡◌, ℕ, ◌-◌, true, false, Bool, List, [], ◌∷◌, ◌++◌, length, length-append, inl, inr, sym, refl, ap, ◌∙◌, subst, arith, append-nil, Some}
+-- What the tests' plan lets a pass do, and what a pass knows that added an entry.
+use Rattle.std.proofs.Common.{◌≡◌, ℕ, suc, ◌+◌, ◌-◌, ◌==◌, cond, true, false, Bool, List, [], ◌∷◌, ◌++◌, length, length-append, inl, inr, sym, refl, ap, ◌∙◌, subst, arith, append-nil, eq-eqb, Some}
 use Rattle.std.specs.Bool.{if◌then◌else◌}
 use Rattle.std.specs.List.{range_with_len}
 use mathlib.Core.Option.{some-injective}
@@ -10,11 +10,12 @@ use Rattle.walk_core.specs.Events.{unlinked_after_give}
 use Rattle.row_layout.specs.declared.places.Layout.{Layout}
 use Rattle.row_table.specs.declared.view.PassView.{PassView}
 use Rattle.row_table.specs.Plan.{HasGrown}
-use Rattle.row_table.specs.Rule.{unmoved}
-use Rattle.row_table.specs.Books.{MayGive, turned, Gives}
+use Rattle.row_table.specs.Rule.{StartsWith, places_from, own_places, unmoved}
+use Rattle.row_table.specs.Books.{MayGive, turned, Learns, Gives}
 use Rattle.row_table.specs.Close.{IsIdle}
 use Rattle.row_table.specs.Start.{MayStart}
 use Rattle.row_table.specs.Tally.{Notes, tally}
+use Rattle.row_table.specs.Uses.{HasAdded}
 
 abbrev pub View : Type 0
 View = PassView ℕ Notes (ℕ × ℕ)
@@ -61,6 +62,34 @@ idle_again v w u book new idle e gives = subst (λ (x : View). IsIdle x) (sym gi
   unlinked = ap (unlinked_after_give []) (ap (λ (x : View). x.core.unlinked) e ∙ idle.unlinked);
   has_not = refl;
 })
+
+-- the places of one thread's entries in a journal that has grown by one of its own
+places_more : {E : Type 0} (own : E → Bool) (i : ℕ) (xs : List E) (e : E) → own e ≡ true → places_from own i (xs ++ e ∷ []) ≡ places_from own i xs ++ (i + length xs) ∷ []
+places_more own i [] e mine = ap (λ (b : Bool). cond b (i ∷ []) []) mine ∙ ap (λ (n : ℕ). n ∷ []) (let z : i ≡ i + 0 = omega arith in z)
+places_more {E} own i (x ∷ xs) e mine =
+    ap (λ (l : List ℕ). cond (own x) (i ∷ l) l) (places_more own (i + 1) xs e mine ∙ ap (λ (n : ℕ). places_from own (i + 1) xs ++ n ∷ []) (let z : i + 1 + length xs ≡ i + suc (length xs) = omega arith in z)) ∙ go (own x)
+  where
+    go : (b : Bool) → cond b (i ∷ (places_from own (i + 1) xs ++ (i + suc (length xs)) ∷ [])) (places_from own (i + 1) xs ++ (i + suc (length xs)) ∷ [])
+        ≡ cond b (i ∷ places_from own (i + 1) xs) (places_from own (i + 1) xs) ++ (i + suc (length xs)) ∷ []
+    go true = refl
+    go false = refl
+
+-- a pass that had the book and gave it back with an entry more, and with none
+pub has_added : (rows : ℕ) (v w u : View) (book new : Notes) (x : ℕ × ℕ) → Learns tally rows v book → w ≡ turned tally v book → Gives tally w new u → new.items ≡ book.items ++ x ∷ [] → x.0 ≡ v.number → HasAdded v x u
+has_added rows v w u book new x learns e gives is names = record {
+  before = book.items;
+  goes_on = learns.seen;
+  seen = ap (λ (y : View). y.seen) gives.after ∙ is;
+  mine = ap (λ (y : View). y.mine) gives.after ∙ ((λ j. own_places tally (ap (λ (y : View). y.number) e j) (is j))
+      ∙ (places_more (λ (y : ℕ × ℕ). y.0 == v.number) 0 book.items x (eq-eqb x.0 v.number names)
+      ∙ ((λ j. sym learns.mine j ++ (0 + length book.items) ∷ []) ∙ ap (λ (n : ℕ). v.mine ++ n ∷ []) (let z : 0 + length book.items ≡ length book.items = omega arith in z))));
+}
+
+pub none_added : (rows : ℕ) (v w u : View) (book new : Notes) → Learns tally rows v book → w ≡ turned tally v book → Gives tally w new u → new.items ≡ book.items → StartsWith u.seen v.seen × (u.mine ≡ v.mine)
+none_added rows v w u book new learns e gives is = (
+  (learns.seen.0, ap (λ (y : View). y.seen) gives.after ∙ (is ∙ learns.seen.1)),
+  ap (λ (y : View). y.mine) gives.after ∙ ((λ j. own_places tally (ap (λ (y : View). y.number) e j) (is j)) ∙ sym learns.mine),
+)
 
 -- what a push that may fail did
 pub added : (ok : Bool) (old new : List (ℕ × ℕ)) (x : ℕ × ℕ) → new ≡ (if ok then old ++ x ∷ [] else old) → HasGrown old new × ((e : ℕ × ℕ) → new ≡ old ++ e ∷ [] → e.0 ≡ x.0)

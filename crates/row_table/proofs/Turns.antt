@@ -16,7 +16,6 @@ use Rattle.atomic_table.proofs.Lists as lists
 use Rattle.table_place.specs.declared.Place.{Place}
 use Rattle.walk_core.specs.declared.event.Event.TheVariants.{Turn}
 use Rattle.walk_core.specs.declared.pass.PassCore.{PassCore}
-use Rattle.walk_core.specs.declared.pass.GrantedRow.{GrantedRow}
 use Rattle.walk_core.specs.Words.{held_by, book_at}
 use Rattle.walk_core.specs.Lists.{times, Has, minus}
 use Rattle.walk_core.specs.Core.{Core, word, pass_at, idle, no_samples, times_in_hand, times_out, IsLinked}
@@ -33,7 +32,7 @@ use Rattle.row_table.specs.declared.view.HandRow.{HandRow}
 use Rattle.row_table.specs.declared.plan.Content.TheVariants.{Book}
 use Rattle.row_table.specs.Plan.{Meaning, IsLawful}
 use Rattle.row_table.specs.Rows.{row_words, place_at, lock_of, generation_of}
-use Rattle.row_table.specs.Rule.{Slot, Homes, Seat, Table, levels_of, view, IsOne, row_part, hand_part, StartsWith, places_from, own_places, SameRows, core_of, IsHeldRow, IsHandRow, Knows, Holds}
+use Rattle.row_table.specs.Rule.{Slot, Homes, Seat, Table, levels_of, view, IsOne, row_part, hand_state, granted_state, StartsWith, places_from, own_places, SameRows, core_of, IsHeldRow, IsHandRow, Knows, Holds}
 use Rattle.row_table.specs.Moves.{NotInHand}
 use Rattle.row_table.specs.Vacant.{KeepsVacant}
 use Rattle.row_table.specs.Known.{IsAnother}
@@ -41,6 +40,7 @@ use Rattle.row_table.specs.Books.{given, region, swept_rows, taken_rows, give_of
 use Rattle.row_table.proofs.Told.{same_front}
 use Rattle.row_table.proofs.Known.{right_now}
 use Rattle.row_table.proofs.Shown.{ShowSame, book_shows}
+use Rattle.row_table.proofs.Hands.{same_maps}
 use Rattle.row_table.proofs.Frames.{moved, moved_here, knows_shown, contents_booked}
 use Rattle.row_table.proofs.Views.{head_or_later, pass_is, knows_it, is_linked, held_of_row, has_held}
 use Rattle.row_table.proofs.Regions.{untouched}
@@ -122,6 +122,8 @@ module _ {R B E : Type 0} (M : Meaning R B E) where
         hand = λ x i. (know.hand x i).fresh;
         once = λ r. let p = parts r in let most = out-le-one h.good.states r in omega arith;
         there = λ r past. let p = parts r in let none_there = h.good.states.there r past in omega arith;
+        apart = λ r has. let its = (h.good.locks.rows.held v.number r (has_held M k first s h v mine r has)).in_hand in
+            let p = parts r in let i = ap (times_in_hand r) (pass_is M k first s h v mine) in omega arith;
       }
 
   pub turns : (k : Layout) (first : B) (slots id : ℕ) (m : Seat R B E) (n : ℕ) → IsOne n m → (view m).core.has_book ≡ false
@@ -196,7 +198,7 @@ module _ {R B E : Type 0} (M : Meaning R B E) where
               seen = now.seen;
               mine = now.mine;
             }),
-        λ rows same. ((λ z. absurd (miss z)), λ _. let by = book_holder k first s h v mine free miss in (by.0, by.1, book_small (core_of M k s.words h.passes h.free h.book) h.good, by.2, refl)),
+        λ rows same. ((λ z. absurd (miss z)), λ _. let by = book_holder k first s h v mine free miss in (right_now M k first s h v mine, by.0, by.1, book_small (core_of M k s.words h.passes h.free h.book) h.good, by.2, refl)),
       ))
 
   -- A give
@@ -270,9 +272,9 @@ module _ {R B E : Type 0} (M : Meaning R B E) where
                 generation = is.generation;
                 agrees = λ _. record { found = λ e. absurd (cc); given = λ _ a e words x agrees. let same : new ≡ a = cc in subst (λ (b : B). M.agrees b o.0.place words x) (sym same) agrees };
               });
-          granted = map-append hand_part v.hand fresh ∙ ((λ i. now.granted i ++ (same_parts (λ r. record { row = r; generation = generation_of s.words r; low = M.next_generation h.book; high = M.next_generation new; place = None }) hand_part (λ (x : ℕ). x) (λ x. refl) taken
-              ∙ sym (same_parts newly_granted (λ (g : GrantedRow). g.row) (λ (x : ℕ). x) (λ x. refl) taken)) i)
-              ∙ sym (map-append (λ (g : GrantedRow). g.row) v.core.granted (map newly_granted taken)));
+          granted = map-append hand_state v.hand fresh ∙ ((λ i. now.granted i ++ (same_maps (λ r. record { row = r; generation = generation_of s.words r; low = M.next_generation h.book; high = M.next_generation new; place = None }) hand_state (λ (r : ℕ). (r, false)) (λ r. refl) taken
+              ∙ sym (same_maps newly_granted granted_state (λ (r : ℕ). (r, false)) (λ r. refl) taken)) i)
+              ∙ sym (map-append granted_state v.core.granted (map newly_granted taken)));
           hand = λ x i. ⊎_elim
               (λ (j : Contains v.hand x). let o = now.hand x j in let up = rises in record { there = o.there; shown = o.shown; below = o.below; fresh = (let f = o.fresh in omega arith) })
               (λ (j : Contains fresh x). let o = contained_map (λ r. record { row = r; generation = generation_of s.words r; low = M.next_generation h.book; high = M.next_generation new; place = None }) taken x j in

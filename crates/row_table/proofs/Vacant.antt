@@ -49,6 +49,20 @@ vacant_is words i has = go (is_link (get_or words i 0)) refl
         let z : times i (vacant_entries words) ≡ times i (range_with_len 0 512) = f ∙ ap (λ (b : Bool). cond (not b) (times i (range_with_len 0 512)) 0) e in
         (range_below 0 512 i (let h : 0 < times i (vacant_entries words) = has in omega arith), e)
 
+range_above : (a n i : ℕ) → a ≤ i → i < a + n → Has (range_with_len a n) i
+range_above a zero i low high = absurd (omega arith)
+range_above a (suc n) i low high = let t = times-cons i a (range_with_len (a + 1) n) in dite (ℕ_discrete a i)
+    (λ e. let same = Rattle.walk_core.proofs.RowLists.times-cons_same i a (range_with_len (a + 1) n) e in omega arith)
+    (λ ne. let other = Rattle.walk_core.proofs.RowLists.times-cons_other i a (range_with_len (a + 1) n) ne in let rest = range_above (a + 1) n i (omega arith) (omega arith) in omega arith)
+
+-- an entry that is no link is among them
+pub is_vacant : (words : List ℕ) (i : ℕ) → i < 512 → is_link (get_or words i 0) ≡ false → Has (vacant_entries words) i
+unfolding vacant_entries
+is_vacant words i inside none =
+    let f = times-filter (λ j. not (is_link (get_or words j 0))) i (range_with_len 0 512) in
+    let z : times i (vacant_entries words) ≡ times i (range_with_len 0 512) = f ∙ ap (λ (b : Bool). cond (not b) (times i (range_with_len 0 512)) 0) none in
+    let h : 0 < times i (range_with_len 0 512) = range_above 0 512 i (omega arith) inside in omega arith
+
 -- The tree
 
 module _ {c : Core} (g : Good c) where

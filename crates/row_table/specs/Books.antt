@@ -108,7 +108,7 @@ module _ {R B E : Type 0} where
 
     -- What the steps tell
 
-    -- of a book that was got, where there are so many rows: it goes on from what the pass knows, and its rows are in no other list
+    -- of a book that was got, where there are so many rows: it goes on from what the pass knows, and its rows are in no other list and not held by the pass
     pub record Learns (rows : ℕ) (v : PassView R B E) (book : B) : Type 0 where
       pub right : IsRight v
       pub seen : StartsWith (M.journal book) v.seen
@@ -118,11 +118,12 @@ module _ {R B E : Type 0} where
       pub hand : (x : HandRow) → Contains v.hand x → x.high ≤ M.next_generation book
       pub once : (r : ℕ) → times r (M.free book) + times r (put_rows (M.limbo book)) + times_in_hand r v.core ≤ 1
       pub there : (r : ℕ) → rows ≤ r → times r (M.free book) + times r (put_rows (M.limbo book)) ≡ 0
+      pub apart : (r : ℕ) → Has v.core.held r → times r (M.free book) + times r (put_rows (M.limbo book)) ≡ 0
 
     -- of a turn that found n, where the book's slot is behind so many rows
     abbrev pub TurnSays : Seat R B E → ℕ → Seat R B E → ℕ → Type 0
     TurnSays m n m' rows = (n ≡ 0 → (book : B) × Learns rows (view m) book × (m' ≡ (turned (view m) book ∷ [], (rows, Some (Book book)) ∷ m.1)))
-        × (n ≢ 0 → (s : ℕ) × (n ≡ held_by s) × (n ≤ 255) × IsAnother (view m) s × (m' ≡ (waited (view m) n ∷ [], m.1)))
+        × (n ≢ 0 → IsRight (view m) × (s : ℕ) × (n ≡ held_by s) × (n ≤ 255) × IsAnother (view m) s × (m' ≡ (waited (view m) n ∷ [], m.1)))
 
     abbrev pub TurnTells : Step (Slot R B) → Seat R B E → ℕ → Seat R B E → Type 0
     TurnTells st m n m' = (rows : ℕ) → st.slots ≡ rows + 1 → TurnSays m n m' rows
@@ -144,7 +145,7 @@ module _ {R B E : Type 0} where
 
     abbrev pub Turns : ℕ → PassView R B E → Turned B → PassView R B E → Type 0
     Turns rows v (Got book) w = Learns rows v book × (w ≡ turned v book)
-    Turns rows v (Held holder) w = IsAnother v holder × (w ≡ waited v (held_by holder))
+    Turns rows v (Held holder) w = IsRight v × IsAnother v holder × (w ≡ waited v (held_by holder))
 
     pub record Gives (v : PassView R B E) (new : B) (w : PassView R B E) : Type 0 where
       pub old : B

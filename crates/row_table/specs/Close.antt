@@ -79,6 +79,7 @@ module _ {R B E : Type 0} (M : Meaning R B E) where
     pub good : IsGoodEnd k words book
     pub even : (t : ℕ) → t < k.passes → slice_index words (epoch_at k.rows t) % 2 ≡ 0
     pub agree : (r : ℕ) (x : R) → IsReached words r → get_elem? slots r ≡ some (Some (Row x)) → M.agrees book (place_at words r) (row_words words r) x
+    pub blank : (r : ℕ) (x : R) → r < k.rows → ¬ IsReached words r → get_elem? slots r ≡ some (Some (Row x)) → M.is_blank x
     pub knows : (v : PassView R B E) → Contains views v → (v.number < k.passes) × KnownAtEnd (slice_index words (epoch_at k.rows v.number)) book v
 
   pub record IsClosed (k : Layout) (views : List (PassView R B E)) (words epochs : List ℕ) (rows : List R) (book : B) : Type 0 where
@@ -89,4 +90,5 @@ module _ {R B E : Type 0} (M : Meaning R B E) where
     pub epochs_are : (t : ℕ) → t < k.passes → slice_index epochs t ≡ slice_index words (epoch_at k.rows t)
     pub even : (t : ℕ) → t < k.passes → slice_index epochs t % 2 ≡ 0
     pub agree : (r : ℕ) (x : R) → IsReached words r → get_elem? rows r ≡ some x → M.agrees book (place_at words r) (row_words words r) x
+    pub blank : (r : ℕ) (x : R) → ¬ IsReached words r → get_elem? rows r ≡ some x → M.is_blank x
     pub knows : (v : PassView R B E) → Contains views v → (v.number < k.passes) × KnownAtEnd (slice_index epochs v.number) book v

@@ -4,7 +4,7 @@
 --     IsHolder, IsAnother, IsLoose      which pass holds a row, another pass, and a row that nobody may take
 --     LinksBelow, LinksLead      the rows that entry words link are there, and at positions of tables
 --     IsRight      what is always true of what a pass knows
---     IsSized      what a pass keeps of the sizes of its table
+--     IsSized      what a pass keeps of the sizes of its table and of the rows of its view
 use Rattle.std.specs.Prelude.{◌≡◌, ◌≢◌, ℕ, ◌+◌, ◌%◌, ◌^◌, ◌<◌, ◌≤◌, ◌⊎◌, true, List, map, slice_index, Some}
 use Rattle.std.specs.List.{Contains}
 use Rattle.atomic_table.specs.Seated.{TableId}
@@ -55,7 +55,7 @@ module _ {R B E : Type 0} where
   -- the generation of the stand on the row, of the held row, and in the entry of a held row that links it
   pub record IsKnownGeneration (v : PassView R B E) (row generation : ℕ) : Type 0 where
     pub of_stand : (s : Stand) → v.core.stand ≡ Some s → s.row ≡ row → generation ≡ s.generation
-    pub of_held : (h : HeldRow R) → Contains v.rows h → h.row ≡ row → (g : ℕ) → h.generation ≡ Some g → generation ≡ g
+    pub of_held : (h : HeldRow R) → Contains v.rows h → h.row ≡ row → generation ≡ h.generation
     pub of_entry : (l : LinksRow v row) → generation ≡ link_generation (slice_index l.linker.words l.index)
 
   -- the pass s holds the row: it is the pass itself where that holds the row, and else another one
@@ -75,12 +75,14 @@ module _ {R B E : Type 0} where
     pub not_held : ¬ Has v.core.held row
     pub unlinked : ¬ LinksRow v row
 
-  -- the pass n of a table with so many rows: the rows that it stands on, that held rows link and that it was granted are there
+  -- the pass n of a table with so many rows: the rows of its view are those that it holds, and the rows that it stands on, that held rows link and that it was granted are there
   pub record IsSized (n rows : ℕ) (id : TableId) (v : PassView R B E) : Type 0 where
     pub slots : id.slots ≡ rows + 1
     pub words : id.words ≡ word_count v.layout
     pub rows_are : rows ≡ v.layout.rows
     pub number : n < v.layout.passes
+    pub held_rows : map row_part v.rows ≡ v.core.held
     pub stand : (s : Stand) → v.core.stand ≡ Some s → s.row < rows
     pub links : (h : HeldRow R) → Contains v.rows h → LinksBelow rows h.words
-    pub granted : (r : ℕ) → Has (granted_rows v.core) r → r < rows
+    -- the rows of its hand are those that it was granted, and are there
+    pub granted : (map hand_part v.hand ≡ granted_rows v.core) × ((r : ℕ) → Has (granted_rows v.core) r → r < rows)

@@ -15,6 +15,12 @@ pub mod Rooms
 pub mod Close
 pub mod Uses
 pub mod Start
+pub mod StartWords
 pub mod Passes
+pub mod Standing
+pub mod Holding
+pub mod Tree
+pub mod Stepping
 pub mod Tally
 pub mod Stock
+pub mod Sown

@@ -15,7 +15,7 @@ use Rattle.walk_core.specs.Guards.{StandsOn}
 use Rattle.row_table.specs.declared.view.PassView.{PassView}
 use Rattle.row_table.specs.declared.view.HeldRow.{HeldRow}
 use Rattle.row_table.specs.Rule.{Slot, Seat, levels_of, view}
-use Rattle.row_table.specs.Known.{IsRight, IsKnownPlace}
+use Rattle.row_table.specs.Known.{IsRight, IsKnownPlace, IsKnownGeneration}
 use Rattle.row_table.specs.Moves.{finding}
 
 module _ {R B E : Type 0} where
@@ -26,11 +26,13 @@ module _ {R B E : Type 0} where
     findings = v.findings ++ finding row place (Some index) n ∷ [];
   }
 
-  -- the row's position is known, the word of a held row is the known one, and a row that the word links is there and at the position of a table
+  -- the row's position and generation are known, the word of a held row is the known one, and a row that the word links is there and at the position of a table
   pub record Reads (v : PassView R B E) (row index n : ℕ) : Type 0 where
     pub right : IsRight v
     pub place : Place
     pub known : IsKnownPlace v row place
+    pub generation : ℕ
+    pub known_generation : IsKnownGeneration v row generation
     pub holds : (h : HeldRow R) → Contains v.rows h → h.row ≡ row → n ≡ slice_index h.words index
     pub below : is_link n ≡ true → link_row n < v.layout.rows
     pub leads : is_link n ≡ true → is_place (levels_of v.layout) (entry_place (levels_of v.layout) place index) ≡ true

@@ -25,7 +25,7 @@ abbrev pub finding : ℕ → Place → Option ℕ → ℕ → Finding
 finding row place index word = record { row = row; place = place; index = index; word = word }
 
 abbrev pub grabbed : {R : Type 0} → ℕ → Place → ℕ → List ℕ → R → HeldRow R
-grabbed row place generation words found = record { row = row; place = place; generation = Some generation; words = words; words_found = words; found = Some found; is_given = false; vacant = [] }
+grabbed row place generation words found = record { row = row; place = place; generation = generation; words = words; words_found = words; found = Some found; is_given = false; vacant = [] }
 
 module _ {R B E : Type 0} where
   abbrev pub looked : PassView R B E → ℕ → Place → Option ℕ → ℕ → PassView R B E
@@ -62,6 +62,7 @@ module _ {R B E : Type 0} where
 
   -- what a grab that found n and did not take the row tells of it
   pub record Misses (row : ℕ) (v : PassView R B E) (n : ℕ) : Type 0 where
+    pub right : IsRight v
     pub place : Place
     pub known : IsKnownPlace v row place
     pub small : n ≤ stale

@@ -2,7 +2,7 @@
 --     placed, numbered, prepared      the pass after it set up a position, a generation, and both
 --     opened      the pass after it opened a row
 --     MaySetUp, PlaceTells, NumberTells      when a pass may set up a row, and what its two steps tell
---     MayOpen, IsSetUp, OpenSays, OpenTells, Opens      when a pass may open a row, the position that it was set up with, and what an opening tells and answers
+--     MayOpen, IsSetUp, OpenSays, OpenTells, Opens      when a pass may open a row, the row of the hand and the position that it was set up with, and what an opening tells and answers
 use Rattle.std.specs.Prelude.{◌≡◌, ℕ, ◌<◌, ◌≤◌, cond, true, false, [], ◌∷◌, ◌++◌, map, nat_eq, None, Some}
 use Rattle.std.specs.List.{Contains}
 use Rattle.atomic_table.specs.Table.{Step}
@@ -10,8 +10,8 @@ use Rattle.table_place.specs.declared.Place.{Place}
 use Rattle.table_place.specs.Place.{is_place}
 use Rattle.walk_core.specs.declared.event.SetPart.TheVariants.{Position, Generation}
 use Rattle.walk_core.specs.Words.{lock_at, position_at, generation_at, place_shown}
-use Rattle.walk_core.specs.Lists.{times, Has}
-use Rattle.walk_core.specs.Core.{granted_rows, granted_at, set_up}
+use Rattle.walk_core.specs.Lists.{times}
+use Rattle.walk_core.specs.Core.{granted_at, set_up}
 use Rattle.walk_core.specs.Events.{granted_after_part}
 use Rattle.row_table.specs.declared.plan.Content.TheVariants.{Row}
 use Rattle.row_table.specs.declared.view.PassView.{PassView}
@@ -30,8 +30,8 @@ abbrev pub with_number : ℕ → ℕ → HandRow → HandRow
 with_number row generation x = cond (nat_eq x.row row) (record x { generation = generation }) x
 
 -- a row that was opened: no grab found anything in it
-abbrev pub opened_row : {R : Type 0} → ℕ → Place → HeldRow R
-opened_row row place = record { row = row; place = place; generation = None; words = blank_words; words_found = blank_words; found = None; is_given = false; vacant = [] }
+abbrev pub opened_row : {R : Type 0} → ℕ → Place → ℕ → HeldRow R
+opened_row row place generation = record { row = row; place = place; generation = generation; words = blank_words; words_found = blank_words; found = None; is_given = false; vacant = [] }
 
 module _ {R B E : Type 0} where
   abbrev pub placed : PassView R B E → ℕ → Place → PassView R B E
@@ -43,12 +43,11 @@ module _ {R B E : Type 0} where
   abbrev pub prepared : PassView R B E → ℕ → Place → ℕ → PassView R B E
   prepared v row place generation = numbered (placed v row place) row generation
 
-  -- The row was granted and is not open. The generation is greater than that of the row, at least the next one of the turn in which it was granted, and below the next one of that give.
+  -- The row is in the hand and is not open. The generation is greater than that of the row, at least the next one of the turn in which it was granted, and below the next one of that give.
   pub record MaySetUp (v : PassView R B E) (row : ℕ) (place : Place) (generation : ℕ) : Type 0 where
     pub known : HandRow
     pub in_hand : Contains v.hand known
     pub same_row : known.row ≡ row
-    pub granted : Has (granted_rows v.core) row
     pub closed : times row v.core.held ≡ 0
     pub is_place : is_place (levels_of v.layout) place ≡ true
     pub above : known.generation < generation
@@ -63,25 +62,29 @@ module _ {R B E : Type 0} where
 
   -- Open row
 
-  abbrev pub opened : PassView R B E → ℕ → Place → PassView R B E
-  opened v row place = record v { core = record v.core { held = v.core.held ++ row ∷ [] }; rows = v.rows ++ opened_row row place ∷ [] }
+  abbrev pub opened : PassView R B E → ℕ → Place → ℕ → PassView R B E
+  opened v row place generation = record v { core = record v.core { held = v.core.held ++ row ∷ [] }; rows = v.rows ++ opened_row row place generation ∷ [] }
 
   -- the row was granted and is not open, and both words were set up since
   pub record MayOpen (v : PassView R B E) (row : ℕ) : Type 0 where
     pub both_set : granted_at v.core row ≡ set_up row
     pub closed : times row v.core.held ≡ 0
 
-  -- the position is that with which the row was set up
+  -- the only row of the hand with this number, and the position with which it was set up
   pub record IsSetUp (v : PassView R B E) (row : ℕ) : Type 0 where
+    pub known : HandRow
+    pub in_hand : Contains v.hand known
+    pub same_row : known.row ≡ row
+    pub only : (x : HandRow) → Contains v.hand x → x.row ≡ row → x ≡ known
     pub place : Place
-    pub same : (x : HandRow) → Contains v.hand x → x.row ≡ row → (p : Place) → x.place ≡ Some p → place ≡ p
+    pub is_set : known.place ≡ Some place
 
   module _ (M : Meaning R B E) where
     abbrev pub OpenSays : Seat R B E → Seat R B E → ℕ → Type 0
-    OpenSays m m' row = (at : IsSetUp (view m) row) × (x : R) × M.is_blank x × (m' ≡ (opened (view m) row at.place ∷ [], (row, Some (Row x)) ∷ m.1))
+    OpenSays m m' row = (at : IsSetUp (view m) row) × (x : R) × M.is_blank x × (m' ≡ (opened (view m) row at.place at.known.generation ∷ [], (row, Some (Row x)) ∷ m.1))
 
     abbrev pub OpenTells : Step (Slot R B) → Seat R B E → ℕ → Seat R B E → Type 0
     OpenTells st m n m' = (row : ℕ) → st.word ≡ lock_at row → OpenSays m m' row
 
     abbrev pub Opens : ℕ → PassView R B E → R → PassView R B E → Type 0
-    Opens row v x w = (at : IsSetUp v row) × M.is_blank x × (w ≡ opened v row at.place)
+    Opens row v x w = (at : IsSetUp v row) × M.is_blank x × (w ≡ opened v row at.place at.known.generation)

@@ -6,11 +6,12 @@
 --     view, IsOne      what the one pass of a seat knows
 --     core_of      the core for which the table stands
 --     SameRows      two lists with the same rows
+--     row_part, hand_part, hand_state, granted_state      the row of a held row and of one of the hand, and with it whether its position is set up
 --     Contents      what stands at home
 --     Agrees      what is known of how a held row agrees with the book
 --     IsHeldRow, IsHandRow, Knows      what is true of a row that a pass holds, of one that it was granted, and of all that a pass knows
 --     Seats, Holds      no two seats have one pass;  the rule
-use Rattle.std.specs.Prelude.{◌≡◌, ℕ, ◌+◌, ◌<◌, ◌≤◌, ◌==◌, cond, Bool, true, false, List, [], ◌∷◌, ◌++◌, map, length, slice_index, slice_index_or, Option, None, Some}
+use Rattle.std.specs.Prelude.{◌≡◌, ℕ, ◌+◌, ◌<◌, ◌≤◌, ◌==◌, cond, Bool, true, false, List, [], ◌∷◌, ◌++◌, map, length, slice_index, slice_index_or, Option, None, Some, is_some}
 use Rattle.std.specs.List.{Contains}
 use Prim.Native.Nat.{zero, suc}
 use mathlib.Core.Option.{some}
@@ -19,9 +20,10 @@ use lib.ListN.{get_elem?}
 use Rattle.atomic_table.specs.Table.{State, Me}
 use Rattle.table_place.specs.declared.Place.{Place}
 use Rattle.walk_core.specs.declared.pass.PassCore.{PassCore}
+use Rattle.walk_core.specs.declared.pass.GrantedRow.{GrantedRow}
 use Rattle.walk_core.specs.Words.{epoch_at, book_at, stale}
 use Rattle.walk_core.specs.Lists.{times}
-use Rattle.walk_core.specs.Core.{Core, idle, granted_rows, times_in_hand}
+use Rattle.walk_core.specs.Core.{Core, idle, times_in_hand}
 use Rattle.walk_core.specs.Good.{Good}
 use Rattle.row_layout.specs.declared.places.Layout.{Layout}
 use Rattle.row_table.specs.declared.plan.Content.{Content}
@@ -68,6 +70,13 @@ row_part h = h.row
 
 abbrev pub hand_part : HandRow → ℕ
 hand_part x = x.row
+
+-- a row, and whether its position was set up since its give
+abbrev pub hand_state : HandRow → ℕ × Bool
+hand_state x = (x.row, is_some x.place)
+
+abbrev pub granted_state : GrantedRow → ℕ × Bool
+granted_state g = (g.row, g.has_position)
 
 module _ {R B E : Type 0} where
   -- a pass that has done nothing, where the book at the start is known or not
@@ -119,7 +128,7 @@ module _ {R B E : Type 0} where
       pub there : h.row < k.rows
       pub shown : row_words words h.row ≡ h.words
       pub place : place_at words h.row ≡ h.place
-      pub generation : (g : ℕ) → h.generation ≡ Some g → generation_of words h.row ≡ g
+      pub generation : generation_of words h.row ≡ h.generation
       pub agrees : times_in_hand h.row v.core ≡ 0 → Agrees book v.last h
 
     -- a row that the pass was granted
@@ -135,7 +144,7 @@ module _ {R B E : Type 0} where
       pub epoch : slice_index words (epoch_at k.rows v.number) ≡ v.epoch
       pub held : map row_part v.rows ≡ v.core.held
       pub rows : (h : HeldRow R) → Contains v.rows h → IsHeldRow k words book v h
-      pub granted : map hand_part v.hand ≡ granted_rows v.core
+      pub granted : map hand_state v.hand ≡ map granted_state v.core.granted
       pub hand : (x : HandRow) → Contains v.hand x → IsHandRow k words book x
       pub vacant : (h : HeldRow R) → Contains v.rows h → times_in_hand h.row v.core ≡ 0 → KeepsVacant M (levels_of k) book v.last h
       pub placed : (x : HandRow) → Contains v.hand x → (p : Place) → x.place ≡ Some p → place_at words x.row ≡ p

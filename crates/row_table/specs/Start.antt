@@ -16,7 +16,7 @@ use Rattle.row_table.specs.Plan.{Meaning}
 use Rattle.row_table.specs.Rows.{row_words, place_at}
 use Rattle.row_table.specs.Rule.{Slot, levels_of, SameRows}
 
--- those of the core at the start
+-- those of the core at the start; `StartsTrue` says what they show of the first two rows
 abbrev pub start_words : Layout → List ℕ
 start_words k = (boot (levels_of k) k.rows k.passes).words
 

@@ -2,6 +2,7 @@
 --     Stock, stock, lawful      the book, the plan and its laws
 --     View, HasRoot      what a pass knows that holds row 1, in whose entry 5 this word stands
 --     HasGrant      it was granted a row, and may set it up with this generation
+--     HasGraft      it holds a row too that the entry links, and the row has no entries
 use Rattle.std.specs.Prelude.{◌≡◌, ◌≢◌, ℕ, ◌^◌, ◌<◌, ◌≤◌, ⊤, Bool, true, false, List, [], ◌∷◌, length, slice_index, None, Some}
 use Rattle.std.specs.Global.{Vec}
 use Rattle.std.specs.List.{Contains}
@@ -9,11 +10,13 @@ use Rattle.table_place.specs.Place.{directory, entry_place}
 use Rattle.walk_core.specs.declared.lists.PutRow.{PutRow}
 use Rattle.walk_core.specs.declared.pass.GrantedRow.{GrantedRow}
 use Rattle.walk_core.specs.declared.pass.UnlinkedRow.{UnlinkedRow}
+use Rattle.walk_core.specs.Words.{is_link, link_row}
 use Rattle.walk_core.specs.Events.{newly_granted}
 use Rattle.row_table.specs.declared.view.PassView.{PassView}
 use Rattle.row_table.specs.declared.view.HeldRow.{HeldRow}
 use Rattle.row_table.specs.declared.view.HandRow.{HandRow}
 use Rattle.row_table.specs.Plan.{Meaning, IsLawful, HasGrown}
+use Rattle.row_table.specs.Vacant.{blank_words}
 use Rattle.row_table.specs.Rule.{levels_of}
 
 abbrev pub Stock : Type 0
@@ -74,3 +77,24 @@ pub record HasGrant (v : View) (row generation : ℕ) : Type 0 where
   pub other : row ≢ 1
   pub small : row < 1024
   pub few : generation < 2 ^ 30
+
+pub record HasGraft (v : View) (row : ℕ) : Type 0 where
+  pub linker : HeldRow ℕ
+  pub there : Contains v.rows linker
+  pub number : linker.row ≡ 1
+  pub place : linker.place ≡ entry_place (levels_of v.layout) directory 0
+  pub long : length linker.words ≡ 512
+  pub link : is_link (slice_index linker.words 5) ≡ true
+  pub to_row : link_row (slice_index linker.words 5) ≡ row
+  pub is_given : linker.is_given ≡ true
+  pub child : HeldRow ℕ
+  pub child_there : Contains v.rows child
+  pub child_row : child.row ≡ row
+  pub child_words : child.words ≡ blank_words
+  pub granted : v.core.granted ≡ []
+  pub unlinked : v.core.unlinked ≡ []
+  pub held : v.core.held ≡ 1 ∷ row ∷ []
+  pub last : (b : Stock) × (v.last ≡ Some b)
+  pub outside : v.core.stand ≡ None
+  pub has_not : v.core.has_book ≡ false
+  pub other : row ≢ 1

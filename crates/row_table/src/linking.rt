@@ -1,6 +1,5 @@
 //! Set entry and unlink.
 ghost use Rattle.std.specs.Prelude.{◌≡◌};
-ghost use Rattle.walk_core.specs.Lists.{Has};
 ghost use Rattle.row_table.specs.Passes.{view_of, kit_of, table_of, IsPassOf};
 ghost use Rattle.row_table.specs.Links.{MaySetEntry, Sets, MayUnlink, Unlinks};
 
@@ -31,7 +30,6 @@ impl<P: Plan> Pass<P> {
     /// Writes an entry of a row that the pass holds. A row that the word links is in the tree from then on.
     pub fn set_entry(&mut self, iron: &Iron<P>, row: u32, index: u32, word: u64)
         requires table { IsPassOf iron.now self.old }
-        requires held { Has (view_of self.old).core.held row }
         requires guard { MaySetEntry (view_of self.old) row index word }
         ensures table { table_of self.new ≡ table_of self.old }
         ensures same { kit_of self.new ≡ kit_of self.old }
@@ -46,7 +44,6 @@ impl<P: Plan> Pass<P> {
     /// Takes a row without entries out of the tree: the entry that links it is 0 from then on.
     pub fn unlink(&mut self, iron: &Iron<P>, row: u32, index: u32)
         requires table { IsPassOf iron.now self.old }
-        requires held { Has (view_of self.old).core.held row }
         requires guard { MayUnlink (view_of self.old) row index }
         ensures table { table_of self.new ≡ table_of self.old }
         ensures same { kit_of self.new ≡ kit_of self.old }

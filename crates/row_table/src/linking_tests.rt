@@ -2,8 +2,10 @@ ghost use Rattle.std.specs.Prelude.{◌≡◌, ◌≢◌, ◌≤◌, ⊤, Bool, 
 ghost use Rattle.walk_core.specs.Events.{newly_unlinked};
 ghost use Rattle.row_table.specs.Passes.{view_of, IsPassOf};
 ghost use Rattle.row_table.specs.Close.{IsIdle};
-ghost use Rattle.row_table.specs.Stock.{HasRoot, HasGrant};
+ghost use Rattle.row_table.specs.Stock.{HasRoot, HasGrant, HasGraft};
+ghost use Rattle.row_table.specs.Uses.{IsStanding};
 
+use crate::uses::{Visit, go_down, touch};
 use crate::{Grabbed, Iron, IronClose, Layout, Parts, Pass, Plan, Turned};
 use std::alloc::{AllocError, Global};
 use std::test::Fail;
@@ -74,19 +76,19 @@ fn grant(iron: &Iron<Supply>, mut pass: Pass<Supply>) -> Option<(Pass<Supply>, u
     let Some(row) = free.pop() else {
         return None;
     };
-    if row == 1 || row >= 1024 || next >= 1 << 30 {
+    if row >= 1024 || next >= 1 << 30 {
         return None;
     }
     pass.give(iron, (free, limbo, next + 1));
     Some((pass, row, next))
 }
 
-// Links the row below the root, and unlinks it.
+// Links the row below the root.
 fn graft(iron: &Iron<Supply>, mut pass: Pass<Supply>, row: u32, generation: u64) -> Pass<Supply>
     requires table { IsPassOf iron.now pass }
     requires grant { HasGrant (view_of pass) row generation }
     ensures table { IsPassOf iron.now result }
-    ensures root { HasRoot (view_of result) 0 (1 ∷ []) [] (newly_unlinked row ∷ []) true }
+    ensures graft { HasGraft (view_of result) row }
 {
     let place = Place {
         space: 0,
@@ -94,12 +96,21 @@ fn graft(iron: &Iron<Supply>, mut pass: Pass<Supply>, row: u32, generation: u64)
         prefix: 5,
     };
     pass.set_up(iron, row, place, generation);
-    let content = pass.open_row(iron, row);
+    let _ = pass.open_row(iron, row);
     let word = 519 + 4096 * u64::from(row) + 4_194_304 * generation;
     pass.set_entry(iron, 1, 5, word);
-    thread::yield_now();
+    pass
+}
+
+// Unlinks the row and lets nobody take it any more.
+fn uproot(iron: &Iron<Supply>, mut pass: Pass<Supply>, row: u32) -> Pass<Supply>
+    requires table { IsPassOf iron.now pass }
+    requires graft { HasGraft (view_of pass) row }
+    ensures table { IsPassOf iron.now result }
+    ensures root { HasRoot (view_of result) 0 (1 ∷ []) [] (newly_unlinked row ∷ []) true }
+{
     pass.unlink(iron, 1, 5);
-    pass.mark_stale(iron, row, content);
+    pass.mark_stale(iron, row, 0);
     pass
 }
 
@@ -130,7 +141,9 @@ fn once(iron: &Iron<Supply>, pass: Pass<Supply>) -> Option<Pass<Supply>>
     ensures { MatchOption result ⊤ (λ p. IsPassOf iron.now p × HasRoot (view_of p) 0 (1 ∷ []) [] [] true) }
 {
     let (pass, row, generation) = grant(iron, pass)?;
-    put_away(iron, graft(iron, pass, row, generation), row)
+    let pass = graft(iron, pass, row, generation);
+    thread::yield_now();
+    put_away(iron, uproot(iron, pass, row), row)
 }
 
 // What the first thread does.
@@ -147,22 +160,30 @@ fn link_often(iron: &Iron<Supply>, pass: Pass<Supply>) -> Option<Pass<Supply>>
     Some(pass)
 }
 
-// Looks down to the entry that the first thread changes.
-fn look_down(iron: &Iron<Supply>, mut pass: Pass<Supply>) -> Option<Pass<Supply>>
+// Enters and goes down to the row that the first thread links, or to the root where it links none.
+fn stand_below(iron: &Iron<Supply>, mut pass: Pass<Supply>) -> Option<(Pass<Supply>, u32)>
     requires table { IsPassOf iron.now pass }
     requires idle { IsIdle (view_of pass) }
-    ensures { MatchOption result ⊤ (λ p. IsPassOf iron.now p × IsIdle (view_of p)) }
+    ensures { MatchOption result ⊤ (λ r. IsPassOf iron.now r.0 × IsStanding (view_of r.0) r.1) }
 {
     let Ok(()) = pass.enter(iron) else {
         return None;
     };
-    let link = pass.look(iron, 0, 0);
-    if link != ROOT {
-        return None;
-    }
-    let _ = pass.look(iron, 1, 5);
+    let root = go_down(iron, &mut pass, 0, 0);
+    let below = go_down(iron, &mut pass, root, 5);
+    Some((pass, below))
+}
+
+// Reads an entry of the row that it comes to: each is 0.
+fn look_down(iron: &Iron<Supply>, pass: Pass<Supply>) -> Option<Pass<Supply>>
+    requires table { IsPassOf iron.now pass }
+    requires idle { IsIdle (view_of pass) }
+    ensures { MatchOption result ⊤ (λ p. IsPassOf iron.now p × IsIdle (view_of p)) }
+{
+    let (mut pass, row) = stand_below(iron, pass)?;
+    let word = pass.look(iron, row, 7);
     pass.leave(iron);
-    Some(pass)
+    if word == 0 { Some(pass) } else { None }
 }
 
 // What the second thread does.
@@ -244,15 +265,17 @@ fn both<R: Threads + Sync>(rt: &R, alloc: Global) -> Result<Option<Parts<Supply>
     Ok(closed(alloc, iron, first, second))
 }
 
-// How many rows nobody may take.
-fn stale_rows(words: &[u64]) -> u32 {
-    let mut count = 0u32;
-    for row in words.chunks(515) {
-        if row.get(512) == Some(&256) {
-            count = count.wrapping_add(1);
+// Whether rows 0 and 1 are free to be taken, and nobody may take one of the others.
+fn locks_are_right(words: &[u64]) -> bool {
+    let mut row = 0u32;
+    for chunk in words.chunks_exact(515) {
+        let lock = if row < 2 { 0 } else { 256 };
+        if chunk.get(512) != Some(&lock) {
+            return false;
         }
+        row = row.wrapping_add(1);
     }
-    count
+    row == ROWS
 }
 
 #[test]
@@ -261,7 +284,53 @@ fn a_row_is_linked_and_unlinked_while_another_pass_descends(rt: HostRuntime) -> 
         return Err(Fail::from(AllocError));
     };
     let (free, limbo, next) = &parts.book;
+    let words = parts.words.as_slice();
     assert_eq!(rt; (free.len(), limbo.len(), *next), (0, 1000, 1002));
-    assert_eq!(rt; stale_rows(parts.words.as_slice()), 1000);
+    // Each pass came in and went out, the first one once.
+    assert_eq!(rt; parts.epochs.as_slice(), [2, 2000].as_slice());
+    assert!(rt; locks_are_right(words));
+    // Row 1's entry 5, and its position: level 4 of space 0.
+    assert_eq!(rt;
+        (words.get(515 + 5), words.get(515 + 513)),
+        (Some(&0), Some(&4))
+    );
+    Ok(())
+}
+
+// What the second pass finds on the row that it stands on, after the first one has unlinked and marked it, and what the table is
+// closed into.
+fn found_stale(alloc: Global) -> Result<Option<(Visit, Parts<Supply>)>, AllocError> {
+    let (iron, first, second) = made(alloc, 3)?;
+    Ok(meet(alloc, iron, first, second))
+}
+
+fn meet(
+    alloc: Global,
+    iron: Iron<Supply>,
+    first: Pass<Supply>,
+    second: Pass<Supply>,
+) -> Option<(Visit, Parts<Supply>)>
+    requires tables { IsPassOf iron first × IsPassOf iron second }
+    requires idle { IsIdle (view_of first) × IsIdle (view_of second) }
+{
+    let (first, row, generation) = grant(&iron, take_root(&iron, first)?)?;
+    let first = graft(&iron, first, row, generation);
+    let (mut second, below) = stand_below(&iron, second)?;
+    let first = uproot(&iron, first, row);
+    let visit = touch(&iron, &mut second, below);
+    let mut first = put_away(&iron, first, row)?;
+    first.release(&iron, 1, 0);
+    let parts = closed(alloc, iron, Some(first), Some(second))?;
+    Some((visit, parts))
+}
+
+#[test]
+fn a_pass_does_not_get_a_row_that_was_unlinked_below_it(rt: HostRuntime) -> Result<(), Fail> {
+    let Some((visit, parts)) = found_stale(rt.alloc())? else {
+        return Err(Fail::from(AllocError));
+    };
+    assert_eq!(rt; visit, Visit::Stale);
+    assert_eq!(rt; parts.epochs.as_slice(), [2, 2].as_slice());
+    assert_eq!(rt; parts.words.get(1030 + 512), Some(&256));
     Ok(())
 }

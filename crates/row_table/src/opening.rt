@@ -56,6 +56,7 @@ impl<P: Plan> Pass<P> {
         ensures table { table_of self.new ≡ table_of self.old }
         ensures same { kit_of self.new ≡ kit_of self.old }
         ensures sets_up { view_of self.new ≡ prepared (view_of self.old) row place generation }
+        ensures may_open { MayOpen (view_of self.new) row }
     {
         let place_word = iron.layout.position(row) as usize;
         let spelled = position_word(place);

@@ -1,7 +1,6 @@
 //! The steps of a pass.
 ghost use Rattle.std.specs.Prelude.{◌≡◌, ℕ, ◌+◌, ◌<◌, ◌≤◌, true, false, length, Some, None, IsSome};
 ghost use Rattle.std.specs.VecDeque.{deque_capacity};
-ghost use Rattle.walk_core.specs.Lists.{Has};
 ghost use Rattle.row_table.specs.Rule.{view, IsOne, SameRows};
 ghost use Rattle.row_table.specs.Known.{IsSized};
 ghost use Rattle.row_table.specs.Moves.{MayGrab, NotInHand, Fits, released};
@@ -104,7 +103,6 @@ impl<P: Plan> Pass<P> {
     /// Gives a row back, with this content.
     pub fn release(&mut self, iron: &Iron<P>, row: u32, content: P::Row)
         requires table { IsPassOf iron.now self.old }
-        requires held { Has (view_of self.old).core.held row }
         requires linked { NotInHand (view_of self.old) row }
         requires fits { Fits P.meaning (view_of self.old) row content }
         ensures table { table_of self.new ≡ table_of self.old }

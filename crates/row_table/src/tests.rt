@@ -2,7 +2,7 @@ ghost use Rattle.std.specs.Prelude.{◌≡◌, ◌<◌, ℕ, length, IfOk, IsSom
 ghost use Rattle.row_table.specs.Passes.{view_of, kit_of, table_of, IsPassOf};
 ghost use Rattle.row_table.specs.Close.{IsIdle};
 
-use crate::uses::{Tally, Visit, add_entry, look_in};
+use crate::uses::{Addition, Tally, Visit, add_entry, journal_at_end, look_in, peek};
 use crate::{Grabbed, Iron, IronClose, Layout, Pass};
 use std::alloc::{AllocError, Global};
 use std::sync::Wait;
@@ -17,7 +17,7 @@ fn made(alloc: Global) -> Result<(Iron<Tally>, Pass<Tally>, Pass<Tally>), AllocE
     ensures kit { IfOk result (λ r. IsSome (kit_of r.1)) }
 {
     let mut rows = Vec::new(alloc);
-    rows.push(0u8)?;
+    rows.push(7u8)?;
     rows.push(0u8)?;
     let mut kits = Vec::new(alloc);
     kits.push(())?;
@@ -44,6 +44,17 @@ fn enter_and_grab(iron: &Iron<Tally>, pass: &mut Pass<Tally>) -> Option<Grabbed<
     }
 }
 
+// The pass enters and sees what row 0 holds.
+fn enter_and_peek(iron: &Iron<Tally>, pass: &mut Pass<Tally>) -> Option<u8>
+    requires table { IsPassOf iron.now pass.old }
+    requires idle { IsIdle (view_of pass.old) }
+{
+    match pass.enter(iron) {
+        Ok(()) => peek(iron, pass, 0),
+        Err(_) => None,
+    }
+}
+
 // Adds an entry, waiting for the book.
 fn note<R: Wait>(rt: &R, iron: &Iron<Tally>, pass: &mut Pass<Tally>, count: u32)
     requires table { IsPassOf iron.now pass.old }
@@ -52,7 +63,7 @@ fn note<R: Wait>(rt: &R, iron: &Iron<Tally>, pass: &mut Pass<Tally>, count: u32)
     ensures idle { IsIdle (view_of pass.new) }
 {
     for _ in rt.forever() {
-        if add_entry(iron, pass, count) {
+        if matches!(add_entry(iron, pass, count), Addition::Added) {
             return;
         }
         thread::yield_now();
@@ -81,9 +92,9 @@ fn both<R: Threads + Wait + Sync>(rt: &R, alloc: Global) -> Result<Vec<(u8, u32)
     let mut passes = Vec::new(alloc);
     passes.push(first)?;
     passes.push(second)?;
-    match iron.close(passes) {
-        IronClose::Closed(parts) => Ok(parts.book),
-        IronClose::NotAll(_, _) => Err(AllocError),
+    match journal_at_end(iron, passes) {
+        Some(journal) => Ok(journal),
+        None => Err(AllocError),
     }
 }
 
@@ -129,6 +140,16 @@ fn a_held_row_names_its_holder(rt: HostRuntime) -> Result<(), Fail> {
     let visit = look_in(&iron, &mut second, 1, 1);
     assert!(rt; got);
     assert_eq!(rt; visit, Visit::Held(0));
+    Ok(())
+}
+
+#[test]
+fn a_row_is_given_back_as_it_was(rt: HostRuntime) -> Result<(), Fail> {
+    let (iron, mut first, mut second) = made(rt.alloc())?;
+    let before = enter_and_peek(&iron, &mut first);
+    let after = enter_and_peek(&iron, &mut second);
+    assert_eq!(rt; before, Some(7));
+    assert_eq!(rt; after, Some(7));
     Ok(())
 }
 

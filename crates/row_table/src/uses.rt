@@ -1,14 +1,17 @@
 //! Callers that rely on the public clauses alone.
-ghost use Rattle.std.specs.Prelude.{◌≡◌, ◌≢◌, ℕ, ◌+◌, ◌<◌, true, false, Some, MatchOption, OnSome};
-ghost use Rattle.walk_core.specs.Words.{is_link, link_row, held_by};
-ghost use Rattle.row_table.specs.Passes.{view_of, number_of, table_of, IsPassOf};
-ghost use Rattle.row_table.specs.Close.{IsIdle};
+ghost use Rattle.std.specs.Prelude.{◌≡◌, ◌≢◌, ◌+◌, ◌<◌, map, true, false, None, MatchOption, OnSome, IfSome};
+ghost use Rattle.std.specs.List.{All};
+ghost use Rattle.walk_core.specs.Words.{is_link, link_row};
+ghost use Rattle.row_table.specs.Passes.{view_of, number_of, table_of, layout_of, IsPassOf};
+ghost use Rattle.row_table.specs.Close.{IsIdle, HasAll};
+ghost use Rattle.row_table.specs.Tally.{tally};
 ghost use Rattle.row_table.specs.Known.{LinksRow};
 ghost use Rattle.row_table.specs.Rule.{levels_of};
 ghost use Rattle.table_place.specs.Place.{entry_place};
-ghost use Rattle.row_table.specs.Uses.{IsStanding, Touched, LookedIn, HoldsAt};
+ghost use Rattle.row_table.specs.Uses.{IsStanding, HoldsAt, Notes, WentDown, Touched, LookedIn, Adds, Remembers};
 
 use crate::answers::{Grabbed, Turned};
+use crate::close::IronClose;
 use crate::pass::Pass;
 use crate::plan::Plan;
 use crate::table::Iron;
@@ -43,6 +46,17 @@ pub(crate) enum Visit {
     Worn,
 }
 
+/// What became of an entry.
+#[derive(Debug, PartialEq, Drop)]
+pub(crate) enum Addition {
+    /// It stands at the end of the journal.
+    Added,
+    /// This pass has the book.
+    Busy(u8),
+    /// The journal found no room for it.
+    NoMemory,
+}
+
 // The row that a word links.
 #[tactic(auto, unfolding(walk_core::specs::Words::is_link, walk_core::specs::Words::link_word))]
 fn linked(word: u64) -> Option<u32>
@@ -58,7 +72,7 @@ fn linked(word: u64) -> Option<u32>
 }
 
 // Goes on to the row that an entry links, if it links one.
-fn go_down<P: Plan>(iron: &Iron<P>, pass: &mut Pass<P>, row: u32, index: u32) -> u32
+pub(crate) fn go_down<P: Plan>(iron: &Iron<P>, pass: &mut Pass<P>, row: u32, index: u32) -> u32
     requires table { IsPassOf iron.now pass.old }
     requires inside { index < 512 }
     requires stands { IsStanding (view_of pass.old) row }
@@ -66,6 +80,7 @@ fn go_down<P: Plan>(iron: &Iron<P>, pass: &mut Pass<P>, row: u32, index: u32) ->
     ensures number { number_of pass.new ≡ number_of pass.old }
     ensures epoch { (view_of pass.new).epoch ≡ (view_of pass.old).epoch }
     ensures stands { IsStanding (view_of pass.new) result }
+    ensures way { (at : IsStanding (view_of pass.old) row) → WentDown (view_of pass.old) at.stand index (view_of pass.new) }
 {
     let word = pass.look(iron, row, index);
     match linked(word) {
@@ -75,13 +90,13 @@ fn go_down<P: Plan>(iron: &Iron<P>, pass: &mut Pass<P>, row: u32, index: u32) ->
 }
 
 // Takes the row, leaves, and gives it back.
-fn touch<P: Plan>(iron: &Iron<P>, pass: &mut Pass<P>, row: u32) -> Visit
+pub(crate) fn touch<P: Plan>(iron: &Iron<P>, pass: &mut Pass<P>, row: u32) -> Visit
     requires table { IsPassOf iron.now pass.old }
     requires stands { IsStanding (view_of pass.old) row }
     ensures table { table_of pass.new ≡ table_of pass.old }
     ensures idle { IsIdle (view_of pass.new) }
     ensures epoch { (view_of pass.new).epoch ≡ (view_of pass.old).epoch + 1 }
-    ensures touched { Touched row (view_of pass.new) result }
+    ensures touched { (at : IsStanding (view_of pass.old) row) → Touched (view_of pass.old) at.stand result (view_of pass.new) }
     ensures other { (s : _) → result ≡ Visit.Held s → s ≢ number_of pass.old }
 {
     let found = pass.grab(iron, row);
@@ -104,14 +119,14 @@ pub(crate) fn look_in<P: Plan>(iron: &Iron<P>, pass: &mut Pass<P>, first: u32, s
     requires inside { (first < 512) × (second < 512) }
     ensures table { table_of pass.new ≡ table_of pass.old }
     ensures idle { IsIdle (view_of pass.new) }
-    ensures looked { LookedIn (view_of pass.old) (view_of pass.new) result }
+    ensures looked { LookedIn first second (view_of pass.old) result (view_of pass.new) }
     ensures other { (s : _) → result ≡ Visit.Held s → s ≢ number_of pass.old }
 {
     match pass.enter(iron) {
         Ok(()) => {
-            let row = go_down(iron, pass, 0, first);
-            let row = go_down(iron, pass, row, second);
-            touch(iron, pass, row)
+            let between = go_down(iron, pass, 0, first);
+            let last = go_down(iron, pass, between, second);
+            touch(iron, pass, last)
         }
         Err(_) => Visit::Worn,
     }
@@ -131,21 +146,55 @@ pub(crate) fn take_child<P: Plan>(iron: &Iron<P>, pass: &mut Pass<P>, row: u32) 
     }
 }
 
+/// What a row holds on which the pass stands, as long as no other pass holds the row. It is given back as it was.
+pub(crate) fn peek(iron: &Iron<Tally>, pass: &mut Pass<Tally>, row: u32) -> Option<u8>
+    requires table { IsPassOf iron.now pass.old }
+    requires stands { IsStanding (view_of pass.old) row }
+    ensures table { table_of pass.new ≡ table_of pass.old }
+    ensures stands { IsStanding (view_of pass.new) row }
+    ensures found { (at : IsStanding (view_of pass.old) row) → OnSome result (Notes (view_of pass.old) at.stand None 0 (view_of pass.new)) }
+{
+    match pass.grab(iron, row) {
+        Grabbed::Got(found) => {
+            pass.release(iron, row, found);
+            Some(found)
+        }
+        Grabbed::Held(_) => None,
+        Grabbed::Stale => None,
+    }
+}
+
 /// Takes the book if no pass has it, adds an entry of the pass's own, and gives it back.
-pub(crate) fn add_entry(iron: &Iron<Tally>, pass: &mut Pass<Tally>, count: u32) -> bool
+pub(crate) fn add_entry(iron: &Iron<Tally>, pass: &mut Pass<Tally>, count: u32) -> Addition
     requires table { IsPassOf iron.now pass.old }
     requires idle { IsIdle (view_of pass.old) }
     ensures table { table_of pass.new ≡ table_of pass.old }
     ensures idle { IsIdle (view_of pass.new) }
-    ensures added { result ≡ true → (view_of pass.new).turn ≡ Some 0 }
-    ensures busy { result ≡ false → (s : ℕ) × ((view_of pass.new).turn ≡ Some (held_by s)) }
+    ensures adds { Adds (view_of pass.old) (number_of pass.old, count) result (view_of pass.new) }
 {
     match pass.turn(iron) {
         Turned::Got(mut entries) => {
-            let _ = entries.push((pass.number(), count));
+            let pushed = entries.push((pass.number(), count));
             pass.give(iron, entries);
-            true
+            match pushed {
+                Ok(()) => Addition::Added,
+                Err(_) => Addition::NoMemory,
+            }
         }
-        Turned::Held(_) => false,
+        Turned::Held(holder) => Addition::Busy(holder),
+    }
+}
+
+/// The journal of a table when all its passes are given back: it has all that each of them has seen, and each one's own entries
+/// at the places that it knows. Nothing if a pass is missing.
+pub(crate) fn journal_at_end(iron: Iron<Tally>, passes: Vec<Pass<Tally>>) -> Option<Vec<(u8, u32)>>
+    requires tables { All (λ p. IsPassOf iron p) passes.items }
+    requires idle { All (λ p. IsIdle (view_of p)) passes.items }
+    ensures all { MatchOption result (¬ HasAll (layout_of iron).passes (map (λ p. number_of p) passes.items)) (λ _. HasAll (layout_of iron).passes (map (λ p. number_of p) passes.items)) }
+    ensures journal { IfSome result (λ journal. All (λ p. Remembers tally journal.items (view_of p)) passes.items) }
+{
+    match iron.close(passes) {
+        IronClose::Closed(parts) => Some(parts.book),
+        IronClose::NotAll(_, _) => None,
     }
 }

@@ -9,8 +9,8 @@ pub struct HeldRow<R> {
     pub row: u32,
     /// The position that its position word shows.
     pub place: Place,
-    /// The number of its generation word, and nothing of a row that the pass opened.
-    pub generation: Option<u64>,
+    /// The number of its generation word.
+    pub generation: u64,
     /// Its 512 entry words.
     pub words: LinkedList<u64>,
     /// Its entry words when it was grabbed.

@@ -1,4 +1,3 @@
-use Rattle.std.proofs.Common.{◌≡◌}
 use Rattle.row_table.specs.Passes.{view_of, IsPassOf}
 use Rattle.row_table.specs.Close.{IsIdle}
 use Rattle.row_table.proofs.linking_tests.descend_often.Given as goal

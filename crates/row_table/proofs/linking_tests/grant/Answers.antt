@@ -1,4 +1,4 @@
-use Rattle.std.proofs.Common.{◌≡◌, ◌+◌, refl, ap, ◌∙◌, arith}
+use Rattle.std.proofs.Common.{◌+◌, refl, ap, ◌∙◌, arith}
 use Rattle.row_table.specs.Passes.{view_of}
 use Rattle.row_table.specs.Stock.{View}
 use Rattle.row_table.proofs.Stock.{may_take}
@@ -17,5 +17,5 @@ pub returns : goal.returns
 returns c = let t = c.in-Got.ensures.turns in (
   c.give.ensures.table ∙ (c.in-Got.ensures.table ∙ c.requires.table),
   granted_one c.args.iron.now.layout _ _ _ _ (c.in-Got.free, c.in-Got.limbo, c.in-Got.next) (c.pop.new.self, c.in-Got.limbo, c.in-Got.next + 1) c.in-Some.row c.requires.root.0 c.requires.root.1 t.0 t.1 c.give.ensures.gives
-      refl c.in-Some.ensures.items refl c.if-row-eq1.false c.if-row-ge1024.false c.if-next.false,
+      refl c.in-Some.ensures.items refl c.if-row-ge1024.false c.if-next.false,
 )

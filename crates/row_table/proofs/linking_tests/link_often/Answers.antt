@@ -1,4 +1,4 @@
-use Rattle.std.proofs.Common.{◌≡◌, true, ◌∙◌}
+use Rattle.std.proofs.Common.{true, ◌∙◌}
 use Rattle.row_table.proofs.Grafts.{may_release_root, idle_after}
 use Rattle.row_table.proofs.linking_tests.link_often.Goals as goal
 
@@ -17,14 +17,11 @@ loop-preserved c = let e = c.in_ok-pass-2.ensures in (e.0, e.1)
 pub release-requires-clause-table : goal.release-requires-clause-table
 release-requires-clause-table c κs = c.loop.invariant.0
 
-pub release-requires-clause-held : goal.release-requires-clause-held
-release-requires-clause-held c κs = (may_release_root _ c.loop.invariant.1).0
-
 pub release-requires-clause-linked : goal.release-requires-clause-linked
-release-requires-clause-linked c κs = (may_release_root _ c.loop.invariant.1).1
+release-requires-clause-linked c κs = (may_release_root _ c.loop.invariant.1).0
 
 pub release-requires-clause-fits : goal.release-requires-clause-fits
-release-requires-clause-fits c κs = (may_release_root _ c.loop.invariant.1).2
+release-requires-clause-fits c κs = (may_release_root _ c.loop.invariant.1).1
 
 pub returns : goal.returns
 returns c = (c.release.ensures.table ∙ c.loop.invariant.0, idle_after _ _ c.loop.invariant.1 c.release.ensures.releases)

@@ -1,4 +1,4 @@
-use Rattle.std.proofs.Common.{◌≡◌, true, [], ◌∷◌}
+use Rattle.std.proofs.Common.{true, [], ◌∷◌}
 use Rattle.row_table.specs.Passes.{view_of, IsPassOf}
 use Rattle.row_table.specs.Stock.{HasRoot}
 use Rattle.row_table.proofs.linking_tests.link_often.Given as goal

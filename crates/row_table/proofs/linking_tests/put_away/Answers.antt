@@ -1,4 +1,4 @@
-use Rattle.std.proofs.Common.{◌≡◌, [], ◌∷◌, refl, ap, ◌∙◌, arith}
+use Rattle.std.proofs.Common.{[], ◌∷◌, refl, ap, ◌∙◌, arith}
 use Rattle.walk_core.specs.declared.lists.PutRow.{PutRow}
 use Rattle.row_table.specs.Passes.{view_of}
 use Rattle.row_table.specs.Stock.{View}

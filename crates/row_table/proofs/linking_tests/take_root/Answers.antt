@@ -1,4 +1,4 @@
-use Rattle.std.proofs.Common.{◌≡◌, inl, inr, ap, ◌∙◌}
+use Rattle.std.proofs.Common.{inl, inr, ap, ◌∙◌}
 use Rattle.row_table.specs.Passes.{view_of}
 use Rattle.row_table.specs.Stock.{View}
 use Rattle.row_table.proofs.Grafts.{stands_on_root, holds_it, took}

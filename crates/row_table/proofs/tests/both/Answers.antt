@@ -7,8 +7,8 @@ use Rattle.row_table.specs.Rule.{view}
 use Rattle.row_table.specs.Close.{IsIdle}
 use Rattle.row_table.proofs.tests.both.Goals as goal
 
-pub close-requires-clause-idle : goal.close-requires-clause-idle
-close-requires-clause-idle g c κs =
+pub journal_at_end-requires-clause-idle : goal.journal_at_end-requires-clause-idle
+journal_at_end-requires-clause-idle g c =
     let F : Pass Tally ℕ (Vec (ℕ × ℕ) Global) (Unit {0}) (ℕ × ℕ) ghosts → Type 0 = λ p. IsIdle (view p.seat.me) in
     let one : IsIdle (view c.join-first.result.0.seat.me) = search rules in let two : IsIdle (view c.join-first.result.1.seat.me) = search rules in
     All-same F _ _ c.in_ok-push-2.ensures.items (All-push F c.push.new.self.items c.join-first.result.1

@@ -74,11 +74,12 @@ invariant_of-self-else-before-eq0 g c =
 
 pub returns-then-before-eq256-clause-grabs : goal.returns-then-before-eq256-clause-grabs
 returns-then-before-eq256-clause-grabs g c = let t = (c.compare_exchange-before.ensures.2 c.args.row c.lock-word.ensures).1 c.if-before-eq0.false in
-    (t.0.place, t.0.known, t.0.loose c.if-before-eq256.true, view_of _ _ _ t.1 ∙ ap (looked (view c.args.self.now.seat.me) c.args.row t.0.place None) c.if-before-eq256.true)
+    (t.0.right, t.0.place, t.0.known, t.0.loose c.if-before-eq256.true, view_of _ _ _ t.1 ∙ ap (looked (view c.args.self.now.seat.me) c.args.row t.0.place None) c.if-before-eq256.true)
 
 pub returns-else-before-eq256-clause-grabs : goal.returns-else-before-eq256-clause-grabs
 returns-else-before-eq256-clause-grabs g c = let t = (c.compare_exchange-before.ensures.2 c.args.row c.lock-word.ensures).1 c.if-before-eq0.false in let some_one = c.if-before-eq0.false in
     let by = t.0.taken c.if-before-eq256.false in let is = by.1 in (
+      t.0.right,
       t.0.place,
       t.0.known,
       subst (IsHolder (view c.args.self.now.seat.me) c.args.row) (let e : by.0 ≡ c.compare_exchange-before.result - 1 = omega arith in e) by.2,

@@ -34,9 +34,9 @@ invariant_of-self g c =
     let items : List ℕ = c.args.row ∷ p.stack.items in
     let pushed : c.push_front_reserved.new.self.items ≡ items = c.push_front_reserved.ensures.items in
     let k : Kept p.number p.rows c.take_row.new.seat.table_id c.take_row.new.seat.me c.push_front_reserved.new.self.items = subst (Kept p.number p.rows c.take_row.new.seat.table_id c.take_row.new.seat.me) (sym pushed)
-    (kept_by p.number p.rows p.seat.table_id c.take_row.new.seat.table_id c.take_row.new.seat.me items (opened (view p.seat.me) c.args.row t.0.place) (c.take_row.ensures.table ∙ c.store.ensures.0)
-    (swapped _ _ _ _ _ _ t.3 c.take_row.ensures.seat ∙ ap (λ (cs : _). (opened (view p.seat.me) c.args.row t.0.place ∷ [], (c.args.row, None) ∷ cs)) p.stacked)
-    p.one.1 (sized_opened p.sized c.args.row t.0.place) (carries_row p.rows c.args.row (view p.seat.me).core.held p.stack.items (view p.seat.me).core.has_book p.carries) (rows_with p.rows c.args.row (view p.seat.me).core.held p.held (omega arith) c.requires.guard.closed)) in
+    (kept_by p.number p.rows p.seat.table_id c.take_row.new.seat.table_id c.take_row.new.seat.me items (opened (view p.seat.me) c.args.row t.0.place t.0.known.generation) (c.take_row.ensures.table ∙ c.store.ensures.0)
+    (swapped _ _ _ _ _ _ t.3 c.take_row.ensures.seat ∙ ap (λ (cs : _). (opened (view p.seat.me) c.args.row t.0.place t.0.known.generation ∷ [], (c.args.row, None) ∷ cs)) p.stacked)
+    p.one.1 (sized_opened p.sized c.args.row t.0.place t.0.known.generation) (carries_row p.rows c.args.row (view p.seat.me).core.held p.stack.items (view p.seat.me).core.has_book p.carries) (rows_with p.rows c.args.row (view p.seat.me).core.held p.held (omega arith) c.requires.guard.closed)) in
     record {
       one = k.one;
       sized = k.sized;

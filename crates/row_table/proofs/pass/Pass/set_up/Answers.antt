@@ -1,27 +1,33 @@
-use Rattle.std.proofs.Common.{rules, arith, [], ◌∷◌, ap, ◌∙◌}
+use Rattle.std.proofs.Common.{rules, arith, [], ◌∷◌, sym, ap, ◌∙◌, subst}
 use Rattle.walk_core.specs.Words.{place_shown}
 use Rattle.row_table.specs.declared.view.PassView.{PassView}
 use Rattle.row_table.specs.Rule.{Seat, view}
-use Rattle.row_table.specs.Openings.{numbered, prepared}
-use Rattle.row_table.proofs.Openings.{is_spelled, spelled_is, places_at, numbers_next}
+use Rattle.row_table.specs.Openings.{numbered, prepared, MayOpen}
+use Rattle.row_table.proofs.Openings.{is_spelled, spelled_is, places_at, numbers_next, may_open}
 use Rattle.row_table.proofs.Told.{Kept, kept_by, view_of}
-use Rattle.row_table.proofs.Sized.{granted_there, sized_prepared}
+use Rattle.row_table.proofs.Sized.{hand_there, sized_prepared}
 use Rattle.row_table.proofs.pass.Pass.set_up.Goals as goal
 
 pub position_word-spelled-requires : goal.position_word-spelled-requires
 position_word-spelled-requires g c = is_spelled (view c.args.self.now.seat.me).layout c.args.place c.requires.guard.is_place
 
+pub position-place_word-requires-clause-there : goal.position-place_word-requires-clause-there
+position-place_word-requires-clause-there g c = hand_there c.args.self.now.sized _ c.args.iron.now.layout c.requires.table c.args.iron.now.sized.0 c.args.iron.now.sized.1 c.args.row c.requires.guard.known c.requires.guard.in_hand c.requires.guard.same_row
+
+pub generation-number_word-requires-clause-there : goal.generation-number_word-requires-clause-there
+generation-number_word-requires-clause-there g c = hand_there c.args.self.now.sized _ c.args.iron.now.layout c.requires.table c.args.iron.now.sized.0 c.args.iron.now.sized.1 c.args.row c.requires.guard.known c.requires.guard.in_hand c.requires.guard.same_row
+
 pub store-requires : goal.store-requires
 store-requires g c = let may = c.requires.guard in (
   search rules,
-  let wide = c.args.iron.now.sized.0 in let at = c.position-place_word.ensures in let less = granted_there c.args.self.now.sized _ c.args.iron.now.layout c.requires.table c.args.iron.now.sized.0 c.args.iron.now.sized.1 c.args.row c.requires.guard.granted in omega arith,
+  let wide = c.args.iron.now.sized.0 in let at = c.position-place_word.ensures in let less = hand_there c.args.self.now.sized _ c.args.iron.now.layout c.requires.table c.args.iron.now.sized.0 c.args.iron.now.sized.1 c.args.row c.requires.guard.known c.requires.guard.in_hand c.requires.guard.same_row in omega arith,
   places_at g.P.Plan.meaning _ _ _ _ _ c.args.self.now.number c.args.row _ _ c.args.place may.known c.position-place_word.ensures c.position_word-spelled.ensures c.args.self.now.one may.in_hand may.same_row may.closed may.is_place,
 )
 
 pub store-requires-2 : goal.store-requires-2
 store-requires-2 g c = (
   search rules,
-  let wide = c.args.iron.now.sized.0 in let at = c.generation-number_word.ensures in let less = granted_there c.args.self.now.sized _ c.args.iron.now.layout c.requires.table c.args.iron.now.sized.0 c.args.iron.now.sized.1 c.args.row c.requires.guard.granted in omega arith,
+  let wide = c.args.iron.now.sized.0 in let at = c.generation-number_word.ensures in let less = hand_there c.args.self.now.sized _ c.args.iron.now.layout c.requires.table c.args.iron.now.sized.0 c.args.iron.now.sized.1 c.args.row c.requires.guard.known c.requires.guard.in_hand c.requires.guard.same_row in omega arith,
   numbers_next g.P.Plan.meaning _ _ _ _ c.args.self.now.seat.me c.store.new.seat.me c.args.self.now.number c.args.row _ c.args.generation (place_shown c.position_word-spelled.result) c.args.place c.generation-number_word.ensures
       c.args.self.now.one c.requires.guard (c.store.ensures.2 c.args.row c.position-place_word.ensures),
 )
@@ -49,3 +55,9 @@ returns-clause-sets_up g c =
     view_of _ _ _ (c.store-2.ensures.2 c.args.row c.generation-number_word.ensures)
     ∙ (ap (λ (u : PassView g.row.P-Row.Denot g.row.P-Book.Denot g.row.P-Entry.Denot). numbered u c.args.row c.args.generation) (view_of _ _ _ (c.store.ensures.2 c.args.row c.position-place_word.ensures))
     ∙ ap (λ (q : _). prepared v c.args.row q c.args.generation) (spelled_is v.layout c.args.place _ c.requires.guard.is_place c.position_word-spelled.ensures))
+
+pub returns-clause-may_open : goal.returns-clause-may_open
+returns-clause-may_open g c =
+    let v : PassView g.row.P-Row.Denot g.row.P-Book.Denot g.row.P-Entry.Denot = view c.args.self.now.seat.me in let guard = c.requires.guard in
+    subst (λ (u : PassView g.row.P-Row.Denot g.row.P-Book.Denot g.row.P-Entry.Denot). MayOpen u c.args.row) (sym (returns-clause-sets_up g c))
+    (may_open g.P.Plan.meaning v c.args.row c.args.generation c.args.place guard.known c.args.self.now.sized.granted.0 guard.in_hand guard.same_row guard.closed)

@@ -29,7 +29,7 @@ take_book-requires-clause-front g c κs within = let slots = ap (λ (x : _). x.s
     let t = (c.compare_exchange-found.ensures.2 c.args.iron.now.layout.rows c.args.iron.now.sized.1).0 c.if-found-eq0.true in (t.0, front_of _ _ _ _ t.2)
 
 pub overflow_cast-result : goal.overflow_cast-result
-overflow_cast-result g c = let t = (c.compare_exchange-found.ensures.2 c.args.iron.now.layout.rows c.args.iron.now.sized.1).1 c.if-found-eq0.false in omega (arith, t.2)
+overflow_cast-result g c = let t = (c.compare_exchange-found.ensures.2 c.args.iron.now.layout.rows c.args.iron.now.sized.1).1 c.if-found-eq0.false in omega (arith, t.3)
 
 pub invariant_of-self : goal.invariant_of-self
 invariant_of-self g c =
@@ -65,7 +65,7 @@ invariant_of-self-else-found-eq0 g c =
     let p = c.args.self.now in let t = (c.compare_exchange-found.ensures.2 c.args.iron.now.layout.rows c.args.iron.now.sized.1).1 c.if-found-eq0.false in
     let w : PassView g.row.P-Row.Denot g.row.P-Book.Denot g.row.P-Entry.Denot = waited (view p.seat.me) c.compare_exchange-found.result in
     let k : Kept p.number p.rows c.compare_exchange-found.new.seat.table_id c.compare_exchange-found.new.seat.me p.stack.items = kept_by p.number p.rows p.seat.table_id c.compare_exchange-found.new.seat.table_id c.compare_exchange-found.new.seat.me p.stack.items w c.compare_exchange-found.ensures.0
-    (t.4 ∙ ap (λ (cs : _). (w ∷ [], cs)) p.stacked) p.one.1 (sized_waited p.sized c.compare_exchange-found.result) p.carries p.held in
+    (t.5 ∙ ap (λ (cs : _). (w ∷ [], cs)) p.stacked) p.one.1 (sized_waited p.sized c.compare_exchange-found.result) p.carries p.held in
     record {
       one = k.one;
       sized = k.sized;
@@ -78,9 +78,10 @@ invariant_of-self-else-found-eq0 g c =
 
 pub returns-clause-turns : goal.returns-clause-turns
 returns-clause-turns g c = let t = (c.compare_exchange-found.ensures.2 c.args.iron.now.layout.rows c.args.iron.now.sized.1).1 c.if-found-eq0.false in let other = c.if-found-eq0.false in
-    let is = t.1 in (
-      subst (IsAnother (view c.args.self.now.seat.me)) (let e : t.0 ≡ c.compare_exchange-found.result - 1 = omega arith in e) t.3,
-      view_of _ _ _ t.4 ∙ ap (waited (view c.args.self.now.seat.me)) (let e : c.compare_exchange-found.result ≡ c.compare_exchange-found.result - 1 + 1 = omega arith in e),
+    let is = t.2 in (
+      t.0,
+      subst (IsAnother (view c.args.self.now.seat.me)) (let e : t.1 ≡ c.compare_exchange-found.result - 1 = omega arith in e) t.4,
+      view_of _ _ _ t.5 ∙ ap (waited (view c.args.self.now.seat.me)) (let e : c.compare_exchange-found.result ≡ c.compare_exchange-found.result - 1 + 1 = omega arith in e),
     )
 
 pub returns-then-found-eq0-clause-layout : goal.returns-then-found-eq0-clause-layout

@@ -4,14 +4,21 @@ use Rattle.row_table.specs.Rule.{view}
 use Rattle.row_table.specs.Links.{entry_cut}
 use Rattle.row_table.proofs.Links.{cuts_at}
 use Rattle.row_table.proofs.Told.{Kept, kept_by, view_of}
-use Rattle.row_table.proofs.Sizes.{held_there}
+use Rattle.row_table.proofs.Sizes.{view_there}
 use Rattle.row_table.proofs.Sized.{sized_cut}
 use Rattle.row_table.proofs.pass.Pass.unlink.Goals as goal
+
+pub entry-place-requires-clause-there : goal.entry-place-requires-clause-there
+entry-place-requires-clause-there g c = let may = c.requires.guard in (
+  view_there c.args.self.now.sized c.args.self.now.held _ c.args.iron.now.layout c.requires.table c.args.iron.now.sized.0 c.args.iron.now.sized.1 may.linker may.held c.args.row may.same_row,
+  may.inside,
+)
 
 pub store-requires : goal.store-requires
 store-requires g c = (
   search rules,
-  let wide = c.args.iron.now.sized.0 in let at = c.entry-place.ensures in let less = held_there c.args.self.now.sized c.args.self.now.held _ c.args.iron.now.layout c.requires.table c.args.iron.now.sized.0 c.args.iron.now.sized.1 c.args.row c.requires.held in let inside = c.requires.guard.inside in omega arith,
+  let wide = c.args.iron.now.sized.0 in let at = c.entry-place.ensures in let may = c.requires.guard in
+      let less = view_there c.args.self.now.sized c.args.self.now.held _ c.args.iron.now.layout c.requires.table c.args.iron.now.sized.0 c.args.iron.now.sized.1 may.linker may.held c.args.row may.same_row in let inside = may.inside in omega arith,
   cuts_at g.P.Plan.meaning _ _ _ _ _ c.args.self.now.number c.args.row c.args.index _ c.entry-place.ensures c.args.self.now.one c.requires.guard,
 )
 
