@@ -14,7 +14,6 @@ pub mod Vacant
 pub mod Turns
 pub mod Sizes
 pub mod End
-pub mod Tally
 pub mod Crossings
 pub mod Looks
 pub mod Marks
@@ -22,15 +21,7 @@ pub mod Openings
 pub mod StartWords
 pub mod Links
 pub mod Sized
-pub mod Stock
-pub mod Grafts
-pub mod Visits
 pub mod Standing
 pub mod Holding
 pub mod Tree
 pub mod Stepping
-pub mod Closings
-pub mod SownPlaces
-pub mod SownSteps
-pub mod SownRoot
-pub mod SownPair

@@ -13,7 +13,6 @@ pub mod Links
 pub mod Calls
 pub mod Rooms
 pub mod Close
-pub mod Uses
 pub mod Start
 pub mod StartWords
 pub mod Passes
@@ -21,6 +20,3 @@ pub mod Standing
 pub mod Holding
 pub mod Tree
 pub mod Stepping
-pub mod Tally
-pub mod Stock
-pub mod Sown

@@ -8,23 +8,15 @@ mod crossing;
 mod event_laws;
 mod laws;
 mod linking;
-#[cfg(test)]
-mod linking_tests;
 mod looking;
 mod marking;
 mod opening;
 mod pass;
 mod plan;
 mod rooms;
-mod sowing;
-#[cfg(test)]
-mod sowing_tests;
 mod stack;
 mod start_laws;
 mod table;
-#[cfg(test)]
-mod tests;
-mod uses;
 mod view;
 
 pub use answers::{Grabbed, Turned, Worn};

@@ -1,0 +1,426 @@
+-- What a pass of the tests' plan with rows to grant has after each of its calls.
+use Rattle.std.proofs.Common.{◌≡◌, ◌≢◌, ℕ, ◌+◌, ◌*◌, ◌^◌, ◌<◌, ◌≤◌, eqb, cond, not, Bool, true, false, List, [], ◌∷◌, ◌++◌, map, get_or, set, inr, sym, refl, ap, ◌∙◌, subst, ⊎_elim, arith, eq-eqb, ne_eqb, get_or-set_same, length-set, Some, None}
+use Rattle.std.specs.List.{Contains, filter}
+use Rattle.std.proofs.lemmas.List.Elements.{Contains-append_left, Contains-append_right}
+use Rattle.table_place.specs.declared.Place.{Place}
+use Rattle.table_place.specs.Place.{directory, entry_place, is_place}
+use Rattle.walk_core.specs.declared.lists.PutRow.{PutRow}
+use Rattle.walk_core.specs.declared.event.SetPart.TheVariants.{Position, Generation}
+use Rattle.walk_core.specs.declared.pass.GrantedRow.{GrantedRow}
+use Rattle.walk_core.specs.declared.pass.UnlinkedRow.{UnlinkedRow}
+use Rattle.walk_core.specs.Words.{is_link, link_row, link_generation, link_word}
+use Rattle.walk_core.specs.Lists.{times, Has, without}
+use Rattle.walk_core.specs.Core.{unlinked_rows}
+use Rattle.walk_core.specs.Events.{top, newly_granted, newly_unlinked, granted_after_part, granted_after_entry, unlinked_after_give, stand_after_look}
+use Rattle.walk_core.specs.Guards.{StandsOn, put_rows}
+use Rattle.walk_core.proofs.RowLists.{times-nil, times-cons_other, times-append, times_one_same, times_one_other, among_true}
+use Rattle.walk_core.proofs.Spellings.{link_word_is, link_row-link_word, link_generation-link_word, is_link-link_word, zero_no_link}
+use Rattle.row_layout.specs.declared.places.Layout.{Layout}
+use Rattle.row_table.specs.declared.view.HeldRow.{HeldRow}
+use Rattle.row_table.specs.declared.view.HandRow.{HandRow}
+use Rattle.row_table.specs.Rule.{levels_of}
+use Rattle.row_table.specs.Vacant.{blank_words}
+use Rattle.row_table.specs.Moves.{grabbed, got, released, Finds, Fits, NotInHand}
+use Rattle.row_table.specs.Crossings.{entered, left}
+use Rattle.row_table.specs.Looks.{looked_at, Reads}
+use Rattle.row_table.specs.Books.{given, hand_rows, taken_rows, put_list, turned, Learns, Gives}
+use Rattle.row_table.specs.Openings.{with_place, with_number, opened_row, prepared, opened, MaySetUp, IsSetUp}
+use Rattle.row_table.specs.Links.{with_word, newly_linked, with_link, link_set, word_set, entry_cut, MaySetEntry, Sets, MayUnlink, Unlinks}
+use Rattle.row_table.specs.Close.{IsIdle}
+use Rattle.row_uses.specs.Stock.{Stock, stock, View, HasRoot, HasGrant, HasGraft}
+use Rattle.row_table.proofs.Views.{head_or_later, in_head, in_tail}
+use Rattle.row_table.proofs.Openings.{blank_zero, in_map}
+use Rattle.row_uses.proofs.Stock.{taken_is, put_is, taken_none}
+
+-- The link of entry 0 of row 0: row 1, the root of space 0, with generation 1
+abbrev pub root_link : ℕ
+root_link = 4198919
+
+pub root_is_link : is_link root_link ≡ true
+unfolding is_link link_word
+root_is_link = refl
+
+root_is_one : link_row root_link ≡ 1
+root_is_one = refl
+
+-- The pass takes row 1
+
+-- where the first look led it
+stands_there : (v1 v2 : View) (n : ℕ) (p : Place) → v1.core.stand ≡ Some top → v2 ≡ looked_at v1 0 p 0 n → n ≡ root_link
+    → v2.core.stand ≡ Some (record { row = 1; place = entry_place (levels_of v1.layout) directory 0; generation = link_generation root_link })
+stands_there v1 v2 n p at e is =
+    ap (λ (v : View). v.core.stand) e ∙ ((λ j. stand_after_look (levels_of v1.layout) 0 0 (is j) (at j))
+    ∙ ap (λ (b : Bool). cond b (Some (record { row = 1; place = entry_place (levels_of v1.layout) directory 0; generation = link_generation root_link })) (Some top)) root_is_link)
+
+pub stands_on_root : (v1 v2 : View) (n : ℕ) (p : Place) → v1.core.stand ≡ Some top → v2 ≡ looked_at v1 0 p 0 n → n ≡ root_link → StandsOn v2.core 1
+stands_on_root v1 v2 n p at e is = (record { row = 1; place = entry_place (levels_of v1.layout) directory 0; generation = link_generation root_link }, stands_there v1 v2 n p at e is, refl)
+
+pub holds_it : (v2 v3 v4 : View) (f : Finds 1 v2) (x : ℕ) → v3 ≡ got v2 1 f.place f.generation f.words x → v4 ≡ left v3 → Has v4.core.held 1
+holds_it v2 v3 v4 f x e3 e4 = let same = ap (times 1) (ap (λ (v : View). v.core.held) e4 ∙ ap (λ (v : View). v.core.held) e3) in let more = times-append 1 v2.core.held (1 ∷ []) in let one = times_one_same 1 1 refl in omega arith
+
+pub took : (v0 v1 v2 v3 v4 v5 : View) (n m x : ℕ) (p : Place) → IsIdle v0 → v1 ≡ entered v0 → v2 ≡ looked_at v1 0 p 0 n → n ≡ root_link → (f : Finds 1 v2) → v3 ≡ got v2 1 f.place f.generation f.words x → v4 ≡ left v3
+    → (r : Reads v4 1 5 m) → v5 ≡ looked_at v4 1 r.place 5 m → m ≡ 0 → HasRoot v5 0 (1 ∷ []) [] [] false
+took v0 v1 v2 v3 v4 v5 n m x p idle e1 e2 is f e3 e4 r e5 z =
+    let g : HeldRow ℕ = grabbed 1 f.place f.generation f.words x in
+    let here : Contains v4.rows g = subst (λ (l : List (HeldRow ℕ)). Contains l g) (sym (ap (λ (v : View). v.rows) e4 ∙ ap (λ (v : View). v.rows) e3)) (Contains-append_right v2.rows (g ∷ []) g (in_head g [])) in
+    let stand = stands_there v1 v2 n p (ap (λ (v : View). v.core.stand) e1) e2 is in
+    let layout : v5.layout ≡ v1.layout = ap (λ (v : View). v.layout) e5 ∙ (ap (λ (v : View). v.layout) e4 ∙ (ap (λ (v : View). v.layout) e3 ∙ ap (λ (v : View). v.layout) e2)) in
+    record {
+      row_one = g;
+      there = subst (λ (l : List (HeldRow ℕ)). Contains l g) (sym (ap (λ (v : View). v.rows) e5)) here;
+      number = refl;
+      place = f.known.of_stand _ stand refl ∙ ap (λ (y : Layout). entry_place (levels_of y) directory 0) (sym layout);
+      long = f.all;
+      word_five = sym (r.holds g here refl) ∙ z;
+      is_given = refl;
+      last = λ e. absurd (cc);
+      held = ap (λ (v : View). v.core.held) e5 ∙ (ap (λ (v : View). v.core.held) e4 ∙ (ap (λ (v : View). v.core.held) e3 ∙ ap (λ (l : List ℕ). l ++ 1 ∷ []) (ap (λ (v : View). v.core.held) e2 ∙ (ap (λ (v : View). v.core.held) e1 ∙ idle.held))));
+      outside = ap (λ (v : View). v.core.stand) e5 ∙ ap (stand_after_look (levels_of v4.layout) 1 5 m) (ap (λ (v : View). v.core.stand) e4);
+      granted = ap (λ (v : View). v.core.granted) e5 ∙ (ap (λ (v : View). v.core.granted) e4 ∙ (ap (λ (v : View). v.core.granted) e3 ∙ (ap (λ (v : View). v.core.granted) e2 ∙ (ap (λ (v : View). v.core.granted) e1 ∙ idle.granted))));
+      unlinked = ap (λ (v : View). v.core.unlinked) e5 ∙ (ap (λ (v : View). v.core.unlinked) e4 ∙ (ap (λ (v : View). v.core.unlinked) e3 ∙ (ap (λ (v : View). v.core.unlinked) e2 ∙ (ap (λ (v : View). v.core.unlinked) e1 ∙ idle.unlinked))));
+      has_not = ap (λ (v : View). v.core.has_book) e5 ∙ (ap (λ (v : View). v.core.has_book) e4 ∙ (ap (λ (v : View). v.core.has_book) e3 ∙ (ap (λ (v : View). v.core.has_book) e2 ∙ (ap (λ (v : View). v.core.has_book) e1 ∙ idle.has_not))));
+    }
+
+-- It is granted a row
+
+pub given_root : (v0 v1 v2 : View) (book new : Stock) (us : List UnlinkedRow) (gs : List GrantedRow) (ws : List UnlinkedRow) (b : Bool) → HasRoot v0 0 (1 ∷ []) [] us b → v1 ≡ turned stock v0 book → (g : Gives stock v1 new v2)
+    → v2.core.granted ≡ gs → v2.core.unlinked ≡ ws → HasRoot v2 0 (1 ∷ []) gs ws true
+given_root v0 v1 v2 book new us gs ws b root e1 g granted unlinked =
+    let layout : v2.layout ≡ v0.layout = ap (λ (v : View). v.layout) g.after ∙ ap (λ (v : View). v.layout) e1 in
+    record {
+      row_one = given root.row_one;
+      there = subst (λ (l : List (HeldRow ℕ)). Contains l (given root.row_one)) (sym (ap (λ (v : View). v.rows) g.after ∙ ap (λ (v : View). map given v.rows) e1)) (in_map given v0.rows root.row_one root.there);
+      number = root.number;
+      place = root.place ∙ ap (λ (y : Layout). entry_place (levels_of y) directory 0) (sym layout);
+      long = root.long;
+      word_five = root.word_five;
+      is_given = refl;
+      last = λ _. (new, ap (λ (v : View). v.last) g.after);
+      held = ap (λ (v : View). v.core.held) g.after ∙ (ap (λ (v : View). v.core.held) e1 ∙ root.held);
+      outside = ap (λ (v : View). v.core.stand) g.after ∙ (ap (λ (v : View). v.core.stand) e1 ∙ root.outside);
+      granted = granted;
+      unlinked = unlinked;
+      has_not = ap (λ (v : View). v.core.has_book) g.after;
+    }
+
+same_book : (v0 v1 : View) (book a : Stock) → v1 ≡ turned stock v0 book → v1.found ≡ Some a → a ≡ book
+same_book v0 v1 book a e found = let is : Some a ≡ Some book = sym found ∙ ap (λ (v : View). v.found) e in cc
+
+pub granted_one : (k : Layout) (rows : ℕ) (v0 v1 v2 : View) (book new : Stock) (row : ℕ) (b : Bool) → HasRoot v0 0 (1 ∷ []) [] [] b → Learns stock rows v0 book → v1 ≡ turned stock v0 book → (g : Gives stock v1 new v2)
+    → new.2 ≡ book.2 + 1 → book.0.items ≡ new.0.items ++ row ∷ [] → new.1.items ≡ book.1.items → row < 1024 → book.2 < 2 ^ 30 → HasGrant v2 row book.2
+granted_one k rows v0 v1 v2 book new row b root learns e1 g next front limbo small few =
+    let old_is : g.old ≡ book = same_book v0 v1 book g.old e1 g.found in
+    let taken : taken_rows stock g.old new ≡ row ∷ [] = ap (λ (a : Stock). taken_rows stock a new) old_is
+    ∙ taken_is k v1 book new row (ap (λ (v : View). v.core.has_book) e1) (omega arith) front limbo (λ q. let o = learns.once q in omega arith) in
+    let put : put_list stock g.old new ≡ [] = ap (λ (a : Stock). put_list stock a new) old_is
+    ∙ Rattle.row_uses.proofs.Stock.put_none k v1 book new row (ap (λ (v : View). v.core.has_book) e1) (omega arith) front limbo (λ q. let o = learns.once q in omega arith) in
+    let granted : v2.core.granted ≡ newly_granted row ∷ [] = ap (λ (v : View). v.core.granted) g.after ∙ (λ j. (ap (λ (v : View). v.core.granted) e1 ∙ root.granted) j ++ map newly_granted (taken j)) in
+    let unlinked : v2.core.unlinked ≡ [] = ap (λ (v : View). v.core.unlinked) g.after ∙ (λ j. unlinked_after_give (put j) ((ap (λ (v : View). v.core.unlinked) e1 ∙ root.unlinked) j)) in
+    let x : HandRow = record { row = row; generation = g.grants.generation row; low = g.old.2; high = new.2; place = None } in
+    let low : g.old.2 ≡ book.2 = ap (λ (a : Stock). a.2) old_is in
+    record {
+      root = given_root v0 v1 v2 book new [] (newly_granted row ∷ []) [] b root e1 g granted unlinked;
+      known = x;
+      in_hand = subst (λ (l : List HandRow). Contains l x) (sym (ap (λ (v : View). v.hand) g.after)) (Contains-append_right v1.hand (hand_rows stock g.grants.generation g.old new (taken_rows stock g.old new)) x
+          (subst (λ (l : List ℕ). Contains (hand_rows stock g.grants.generation g.old new l) x) (sym taken) (in_head x [])));
+      same_row = refl;
+      above = (let has : Has (taken_rows stock g.old new) row = subst (λ (l : List ℕ). Has l row) (sym taken) (let one = times_one_same row row refl in omega arith) in let lower = g.grants.low row has in omega arith);
+      low = omega arith;
+      high = omega arith;
+      -- it holds row 1, which is not free then
+      other = λ z. (let held = ap (times 1) root.held in let self = times_one_same 1 1 refl in let apart = learns.apart 1 (omega arith) in
+          let free = ap (times 1) front in let all = times-append 1 new.0.items (row ∷ []) in let one = times_one_same 1 row z in omega arith);
+      small = small;
+      few = few;
+    }
+
+-- It links the row and unlinks it
+
+abbrev pub child_place : Place
+child_place = record { space = 0; level = 3; prefix = 5 }
+
+child_is_place : (k : Layout) → is_place (levels_of k) child_place ≡ true
+unfolding levels_of
+child_is_place k = refl
+
+child_below : (k : Layout) → child_place ≡ entry_place (levels_of k) (entry_place (levels_of k) directory 0) 5
+unfolding levels_of
+child_below k = refl
+
+-- a word that is a link of the row with the generation
+record IsLinkOf (word row generation : ℕ) : Type 0 where
+  pub link : is_link word ≡ true
+  pub to_row : link_row word ≡ row
+  pub with_generation : link_generation word ≡ generation
+
+link_of : (word row generation : ℕ) → row < 1024 → generation < 2 ^ 30 → word ≡ 519 + 4096 * row + 4194304 * generation → IsLinkOf word row generation
+link_of word row generation small few is =
+    let e : word ≡ link_word row generation = is ∙ sym (link_word_is row generation) in record {
+      link = ap is_link e ∙ is_link-link_word row generation small few;
+      to_row = ap link_row e ∙ link_row-link_word row generation small;
+      with_generation = ap link_generation e ∙ link_generation-link_word row generation small;
+    }
+
+row_has : (row : ℕ) → row ≢ 1 → times row (1 ∷ []) ≡ 0
+row_has row ne = times_one_other row 1 (λ e. ne (sym e))
+
+pub may_prepare : (v : View) (row g : ℕ) → HasGrant v row g → MaySetUp v row child_place g
+may_prepare v row g may = record {
+  known = may.known;
+  in_hand = may.in_hand;
+  same_row = may.same_row;
+  closed = ap (times row) may.root.held ∙ row_has row may.other;
+  is_place = child_is_place v.layout;
+  above = may.above;
+  low = may.low;
+  high = may.high;
+}
+
+-- both parts of the only granted row are set up
+prepared_one : (row g : ℕ) (p : Place) → granted_after_part row (Generation g) (granted_after_part row (Position p) (newly_granted row ∷ [])) ≡ record { row = row; has_position = true; has_generation = true } ∷ []
+prepared_one row g p =
+    ap (granted_after_part row (Generation g)) (ap (λ (b : Bool). cond b (record { row = row; has_position = true; has_generation = false }) (newly_granted row) ∷ []) (eq-eqb row row refl))
+    ∙ ap (λ (b : Bool). cond b (record { row = row; has_position = true; has_generation = true }) (record { row = row; has_position = true; has_generation = false }) ∷ []) (eq-eqb row row refl)
+
+-- What the pass has after it set the row up, and after it opened it
+
+record IsPrepared (v v1 : View) (row g : ℕ) : Type 0 where
+  pub hand_row : HandRow
+  pub in_hand : Contains v1.hand hand_row
+  pub same_row : hand_row.row ≡ row
+  pub place : hand_row.place ≡ Some child_place
+  pub generation : hand_row.generation ≡ g
+  pub granted : v1.core.granted ≡ record { row = row; has_position = true; has_generation = true } ∷ []
+
+set_up_one : (v v1 : View) (row g : ℕ) → HasGrant v row g → v1 ≡ prepared v row child_place g → IsPrepared v v1 row g
+set_up_one v v1 row g may e1 =
+    let x : HandRow = may.known in
+    let first : with_place row child_place x ≡ record x { place = Some child_place } = ap (λ (b : Bool). cond b (record x { place = Some child_place }) x) (eq-eqb x.row row may.same_row) in
+    let y : HandRow = record x { place = Some child_place } in
+    let second : with_number row g y ≡ record y { generation = g } = ap (λ (b : Bool). cond b (record y { generation = g }) y) (eq-eqb y.row row may.same_row) in
+    let is : with_number row g (with_place row child_place x) ≡ record y { generation = g } = ap (with_number row g) first ∙ second in
+    record {
+      hand_row = record y { generation = g };
+      in_hand = subst (λ (l : List HandRow). Contains l (record y { generation = g })) (sym (ap (λ (u : View). u.hand) e1))
+          (subst (Contains (map (with_number row g) (map (with_place row child_place) v.hand))) is
+          (in_map (with_number row g) (map (with_place row child_place) v.hand) (with_place row child_place x) (in_map (with_place row child_place) v.hand x may.in_hand)));
+      same_row = may.same_row;
+      place = refl;
+      generation = refl;
+      granted = ap (λ (u : View). u.core.granted) e1 ∙ (ap (λ (gs : List GrantedRow). granted_after_part row (Generation g) (granted_after_part row (Position child_place) gs)) may.root.granted ∙ prepared_one row g child_place);
+    }
+
+record IsOpened (v v2 : View) (row g : ℕ) : Type 0 where
+  pub child : HeldRow ℕ
+  pub child_there : Contains v2.rows child
+  pub child_row : child.row ≡ row
+  pub child_place : child.place ≡ child_place
+  pub child_words : child.words ≡ blank_words
+  pub root_there : (h : HeldRow ℕ) → Contains v.rows h → Contains v2.rows h
+  pub hand_row : HandRow
+  pub in_hand : Contains v2.hand hand_row
+  pub same_row : hand_row.row ≡ row
+  pub generation : hand_row.generation ≡ g
+  pub granted : v2.core.granted ≡ record { row = row; has_position = true; has_generation = true } ∷ []
+  pub unlinked : v2.core.unlinked ≡ []
+  pub held : v2.core.held ≡ 1 ∷ row ∷ []
+  pub layout : v2.layout ≡ v.layout
+  pub last : v2.last ≡ v.last
+  pub outside : v2.core.stand ≡ None
+  pub has_not : v2.core.has_book ≡ false
+
+open_one : (v v1 v2 : View) (row g : ℕ) → HasGrant v row g → v1 ≡ prepared v row child_place g → (at : IsSetUp v1 row) → v2 ≡ opened v1 row at.place at.known.generation → IsOpened v v2 row g
+open_one v v1 v2 row g may e1 at e2 =
+    let is = set_up_one v v1 row g may e1 in let child : HeldRow ℕ = opened_row row at.place at.known.generation in record {
+      child = child;
+      child_there = subst (λ (l : List (HeldRow ℕ)). Contains l child) (sym (ap (λ (u : View). u.rows) e2)) (Contains-append_right v1.rows (child ∷ []) child (in_head child []));
+      child_row = refl;
+      child_place = (let same = at.only is.hand_row is.in_hand is.same_row in let shown : Some at.place ≡ Some child_place = sym at.is_set ∙ (ap (λ (x : HandRow). x.place) (sym same) ∙ is.place) in cc);
+      child_words = refl;
+      root_there = λ h i. subst (λ (l : List (HeldRow ℕ)). Contains l h) (sym (ap (λ (u : View). u.rows) e2 ∙ ap (λ (u : View). u.rows ++ child ∷ []) e1)) (Contains-append_left v.rows (child ∷ []) h i);
+      hand_row = is.hand_row;
+      in_hand = subst (λ (l : List HandRow). Contains l is.hand_row) (sym (ap (λ (u : View). u.hand) e2)) is.in_hand;
+      same_row = is.same_row;
+      generation = is.generation;
+      granted = ap (λ (u : View). u.core.granted) e2 ∙ is.granted;
+      unlinked = ap (λ (u : View). u.core.unlinked) e2 ∙ (ap (λ (u : View). u.core.unlinked) e1 ∙ may.root.unlinked);
+      held = ap (λ (u : View). u.core.held) e2 ∙ ap (λ (l : List ℕ). l ++ row ∷ []) (ap (λ (u : View). u.core.held) e1 ∙ may.root.held);
+      layout = ap (λ (u : View). u.layout) e2 ∙ ap (λ (u : View). u.layout) e1;
+      last = ap (λ (u : View). u.last) e2 ∙ ap (λ (u : View). u.last) e1;
+      outside = ap (λ (u : View). u.core.stand) e2 ∙ (ap (λ (u : View). u.core.stand) e1 ∙ may.root.outside);
+      has_not = ap (λ (u : View). u.core.has_book) e2 ∙ (ap (λ (u : View). u.core.has_book) e1 ∙ may.root.has_not);
+    }
+
+-- the entry of row 1 may link it
+pub may_link_one : (v v1 v2 : View) (row g word : ℕ) → HasGrant v row g → v1 ≡ prepared v row child_place g → (at : IsSetUp v1 row) → v2 ≡ opened v1 row at.place at.known.generation → word ≡ 519 + 4096 * row + 4194304 * g → MaySetEntry v2 1 5 word
+may_link_one v v1 v2 row g word may e1 at e2 is =
+    let o = open_one v v1 v2 row g may e1 at e2 in let l = link_of word row g may.small may.few is in let root = may.root in record {
+      linker = root.row_one;
+      held = o.root_there root.row_one root.there;
+      same_row = root.number;
+      linked = (let a = ap (λ (gs : List GrantedRow). times 1 (map (λ (x : GrantedRow). x.row) gs)) o.granted in let b = ap (λ us. times 1 (map (λ u. u.row) us)) o.unlinked in let n = times-nil 1 in let z = times_one_other 1 row may.other in omega arith);
+      inside = omega arith;
+      old = ap is_link root.word_five ∙ zero_no_link;
+      new = inr (inr (record {
+        link = l.link;
+        child = o.child;
+        is_open = o.child_there;
+        child_row = o.child_row ∙ sym l.to_row;
+        hand_row = o.hand_row;
+        granted = o.in_hand;
+        same_row = o.same_row ∙ sym l.to_row;
+        place = o.child_place ∙ (child_below v.layout ∙ (λ j. entry_place (levels_of (sym o.layout j)) (sym root.place j) 5));
+        generation = o.generation ∙ sym l.with_generation;
+      }));
+    }
+
+kept_in : {X : Type 0} (t : X → Bool) (xs : List X) (x : X) → Contains xs x → t x ≡ true → Contains (filter t xs) x
+kept_in t [] x i e = let less = i.1 in absurd (omega arith)
+kept_in {X} t (y ∷ ys) x i e = ⊎_elim
+    (λ (z : y ≡ x). subst (λ (b : Bool). Contains (cond b (y ∷ filter t ys) (filter t ys)) x) (sym (ap t z ∙ e)) (subst (Contains (y ∷ filter t ys)) z (in_head y (filter t ys))))
+    (λ (l : Contains ys x). go (t y) (kept_in t ys x l e))
+    (head_or_later y ys x i)
+  where
+    go : (b : Bool) → Contains (filter t ys) x → Contains (cond b (y ∷ filter t ys) (filter t ys)) x
+    go true l = in_tail y (filter t ys) x l
+    go false l = l
+
+-- What the pass has after the entry links the row, and after it is 0 again
+
+pub link_one : (v v1 v2 v3 : View) (row g word : ℕ) → HasGrant v row g → v1 ≡ prepared v row child_place g → (at : IsSetUp v1 row) → v2 ≡ opened v1 row at.place at.known.generation → word ≡ 519 + 4096 * row + 4194304 * g → Sets 1 5 word v2 v3 → HasGraft v3 row
+link_one v v1 v2 v3 row g word may e1 at e2 is sets =
+    let o = open_one v v1 v2 row g may e1 at e2 in let l = link_of word row g may.small may.few is in let root = may.root in let r : HeldRow ℕ = root.row_one in
+    let c : ℕ = link_row word in
+    let e3 : v3 ≡ link_set v2 r 5 word = sets r (o.root_there r root.there) root.number ∙ ap (λ (b : Bool). cond b (link_set v2 r 5 word) (word_set v2 r.row 5 word)) l.link in
+    let f : HeldRow ℕ → HeldRow ℕ = λ h. with_link r 5 c (with_word r.row 5 word h) in
+    let ne : r.row ≢ c = λ e. may.other (sym l.to_row ∙ (sym e ∙ root.number)) in
+    let nc : o.child.row ≢ r.row = λ e. may.other (sym o.child_row ∙ (e ∙ root.number)) in
+    let z : HeldRow ℕ = record r { words = set r.words 5 word } in
+    let root_is : f r ≡ record z { vacant = without 5 r.vacant } = ap (with_link r 5 c) (ap (λ (b : Bool). cond b z r) (eq-eqb r.row r.row refl))
+    ∙ (ap (λ (b : Bool). cond b (newly_linked r 5 z) (cond (eqb r.row r.row) (record z { vacant = without 5 z.vacant }) z)) (ne_eqb r.row c ne)
+    ∙ ap (λ (b : Bool). cond b (record z { vacant = without 5 z.vacant }) z) (eq-eqb r.row r.row refl)) in
+    let child_is : f o.child ≡ newly_linked r 5 o.child = ap (with_link r 5 c) (ap (λ (b : Bool). cond b (record o.child { words = set o.child.words 5 word }) o.child) (ne_eqb o.child.row r.row nc))
+    ∙ ap (λ (b : Bool). cond b (newly_linked r 5 o.child) (cond (eqb o.child.row r.row) (record o.child { vacant = without 5 o.child.vacant }) o.child)) (eq-eqb o.child.row c (o.child_row ∙ sym l.to_row)) in
+    let rows : v3.rows ≡ map f v2.rows = ap (λ (u : View). u.rows) e3 in
+    let layout : v3.layout ≡ v.layout = ap (λ (u : View). u.layout) e3 ∙ o.layout in
+    let done : GrantedRow = record { row = row; has_position = true; has_generation = true } in
+    let long = root.long in let five : get_or (set r.words 5 word) 5 0 ≡ word = get_or-set_same r.words 5 word 0 (omega arith) in
+    record {
+      linker = record z { vacant = without 5 r.vacant };
+      there = subst (λ (xs : List (HeldRow ℕ)). Contains xs (record z { vacant = without 5 r.vacant })) (sym rows) (subst (Contains (map f v2.rows)) root_is (in_map f v2.rows r (o.root_there r root.there)));
+      number = root.number;
+      place = root.place ∙ ap (λ (y : Layout). entry_place (levels_of y) directory 0) (sym layout);
+      long = length-set r.words 5 word ∙ root.long;
+      link = ap is_link five ∙ l.link;
+      to_row = ap link_row five ∙ l.to_row;
+      is_given = root.is_given;
+      child = newly_linked r 5 o.child;
+      child_there = subst (λ (xs : List (HeldRow ℕ)). Contains xs (newly_linked r 5 o.child)) (sym rows) (subst (Contains (map f v2.rows)) child_is (in_map f v2.rows o.child o.child_there));
+      child_row = o.child_row;
+      child_words = o.child_words;
+      granted = ap (λ (u : View). u.core.granted) e3 ∙ (ap (granted_after_entry word) o.granted
+          ∙ (ap (λ (b : Bool). cond b (cond (not (eqb row c)) (done ∷ []) []) (done ∷ [])) l.link ∙ ap (λ (b : Bool). cond (not b) (done ∷ []) []) (eq-eqb row c (sym l.to_row))));
+      unlinked = ap (λ (u : View). u.core.unlinked) e3 ∙ o.unlinked;
+      held = ap (λ (u : View). u.core.held) e3 ∙ o.held;
+      last = (let b = root.last refl in (b.0, ap (λ (u : View). u.last) e3 ∙ (o.last ∙ b.1)));
+      outside = ap (λ (u : View). u.core.stand) e3 ∙ o.outside;
+      has_not = ap (λ (u : View). u.core.has_book) e3 ∙ o.has_not;
+      other = may.other;
+    }
+
+module _ (v3 v4 v5 : View) (row : ℕ) (o : HasGraft v3 row) where
+  pub may_cut_one : MayUnlink v3 1 5
+  may_cut_one = record {
+    linker = o.linker;
+    held = o.there;
+    same_row = o.number;
+    inside = omega arith;
+    link = o.link;
+    child = o.child;
+    child_held = o.child_there;
+    child_row = o.child_row ∙ sym o.to_row;
+    child_empty = λ i low. ap (λ (ws : List ℕ). get_or ws i 0) o.child_words ∙ blank_zero i low;
+  }
+
+  module _ (cuts : Unlinks 1 5 v3 v4) where
+    cut_is : v4 ≡ entry_cut v3 o.linker 5
+    cut_is = cuts o.linker o.there o.number
+
+    cut_unlinked : v4.core.unlinked ≡ newly_unlinked row ∷ []
+    cut_unlinked = ap (λ (u : View). u.core.unlinked) cut_is ∙ (λ j. o.unlinked j ++ newly_unlinked (o.to_row j) ∷ [])
+
+    cut_held : v4.core.held ≡ 1 ∷ row ∷ []
+    cut_held = ap (λ (u : View). u.core.held) cut_is ∙ o.held
+
+    pub may_mark_held : Has v4.core.held row
+    may_mark_held = let same = ap (times row) cut_held in let all = times-cons_other row 1 (row ∷ []) (λ e. o.other (sym e)) in let one = times_one_same row row refl in omega arith
+
+    pub may_mark_unlinked : Has (unlinked_rows v4.core) row
+    may_mark_unlinked = let same = ap (λ us. times row (map (λ u. u.row) us)) cut_unlinked in let one = times_one_same row row refl in omega arith
+
+    pub marked_one : v5 ≡ released v4 row → HasRoot v5 0 (1 ∷ []) [] (newly_unlinked row ∷ []) true
+    marked_one e5 =
+        let r : HeldRow ℕ = o.linker in let y : HeldRow ℕ = record r { words = set r.words 5 0 } in
+        let long = o.long in
+        let is_there : with_word r.row 5 0 r ≡ y = ap (λ (b : Bool). cond b y r) (eq-eqb r.row r.row refl) in
+        let there4 : Contains v4.rows y = subst (λ (xs : List (HeldRow ℕ)). Contains xs y) (sym (ap (λ (u : View). u.rows) cut_is)) (subst (Contains (map (with_word r.row 5 0) v3.rows)) is_there (in_map (with_word r.row 5 0) v3.rows r o.there)) in
+        let layout : v5.layout ≡ v3.layout = ap (λ (u : View). u.layout) e5 ∙ ap (λ (u : View). u.layout) cut_is in
+        let other : eqb y.row row ≡ false = ne_eqb y.row row (λ e. o.other (sym e ∙ o.number)) in
+        record {
+          row_one = y;
+          there = subst (λ (xs : List (HeldRow ℕ)). Contains xs y) (sym (ap (λ (u : View). u.rows) e5)) (kept_in (λ (h : HeldRow ℕ). not (eqb h.row row)) v4.rows y there4 (ap not other));
+          number = o.number;
+          place = o.place ∙ ap (λ (k : Layout). entry_place (levels_of k) directory 0) (sym layout);
+          long = length-set r.words 5 0 ∙ o.long;
+          word_five = get_or-set_same r.words 5 0 0 (omega arith);
+          is_given = o.is_given;
+          last = λ _. (o.last.0, ap (λ (u : View). u.last) e5 ∙ (ap (λ (u : View). u.last) cut_is ∙ o.last.1));
+          held = ap (λ (u : View). u.core.held) e5 ∙ (ap (without row) cut_held ∙ (ap (λ (b : Bool). cond (not b) (1 ∷ without row (row ∷ [])) (without row (row ∷ []))) (ne_eqb 1 row (λ e. o.other (sym e)))
+              ∙ ap (λ (b : Bool). 1 ∷ cond (not b) (row ∷ []) []) (eq-eqb row row refl)));
+          outside = ap (λ (u : View). u.core.stand) e5 ∙ (ap (λ (u : View). u.core.stand) cut_is ∙ o.outside);
+          granted = ap (λ (u : View). u.core.granted) e5 ∙ (ap (λ (u : View). u.core.granted) cut_is ∙ o.granted);
+          unlinked = ap (λ (u : View). u.core.unlinked) e5 ∙ cut_unlinked;
+          has_not = ap (λ (u : View). u.core.has_book) e5 ∙ (ap (λ (u : View). u.core.has_book) cut_is ∙ o.has_not);
+        }
+
+-- The row goes into limbo, and row 1 back
+
+-- a row of the hand is not in limbo
+pub not_in_limbo : (rows : ℕ) (v0 : View) (book : Stock) (row : ℕ) → HasRoot v0 0 (1 ∷ []) [] (newly_unlinked row ∷ []) true → Learns stock rows v0 book → times row (put_rows book.1.items) ≡ 0
+not_in_limbo rows v0 book row root learns = let o = learns.once row in let one = times_one_same row row refl in
+    let same = ap (λ (us : List UnlinkedRow). times row (map (λ (u : UnlinkedRow). u.row) us)) root.unlinked in omega arith
+
+-- and the pass may put it there
+pub put_marked : (v0 v1 : View) (book : Stock) (row : ℕ) → HasRoot v0 0 (1 ∷ []) [] (newly_unlinked row ∷ []) true → row ≢ 1 → v1 ≡ turned stock v0 book → Has (unlinked_rows v1.core) row × (times row v1.core.held ≡ 0)
+put_marked v0 v1 book row root other e1 = (
+  (let one = times_one_same row row refl in let same = ap (λ (us : List UnlinkedRow). times row (map (λ (u : UnlinkedRow). u.row) us)) (ap (λ (v : View). v.core.unlinked) e1 ∙ root.unlinked) in omega arith),
+  ap (times row) (ap (λ (v : View). v.core.held) e1 ∙ root.held) ∙ row_has row other,
+)
+
+pub may_release_root : (v : View) → HasRoot v 0 (1 ∷ []) [] [] true → NotInHand v 1 × Fits stock v 1 0
+may_release_root v root = (
+  (let a = ap (λ (gs : List GrantedRow). times 1 (map (λ (g : GrantedRow). g.row) gs)) root.granted in let b = ap (λ (us : List UnlinkedRow). times 1 (map (λ (u : UnlinkedRow). u.row) us)) root.unlinked in let n = times-nil 1 in omega arith),
+  record { known = root.row_one; held = root.there; same_row = root.number; content_fits = inr (root.is_given, let b = root.last refl in (b.0, b.1, λ _. refl)) },
+)
+
+pub idle_after : (v w : View) → HasRoot v 0 (1 ∷ []) [] [] true → w ≡ released v 1 → IsIdle w
+idle_after v w root e = record {
+  outside = ap (λ (u : View). u.core.stand) e ∙ root.outside;
+  held = ap (λ (u : View). u.core.held) e ∙ ap (without 1) root.held;
+  granted = ap (λ (u : View). u.core.granted) e ∙ root.granted;
+  unlinked = ap (λ (u : View). u.core.unlinked) e ∙ root.unlinked;
+  has_not = ap (λ (u : View). u.core.has_book) e ∙ root.has_not;
+}
+
+pub put_away : (k : Layout) (rows : ℕ) (v0 v1 v2 : View) (book new : Stock) (put : PutRow) → HasRoot v0 0 (1 ∷ []) [] (newly_unlinked put.row ∷ []) true → Learns stock rows v0 book → put.row ≢ 1 → v1 ≡ turned stock v0 book → (g : Gives stock v1 new v2)
+    → book.2 ≤ new.2 → new.0.items ≡ book.0.items → new.1.items ≡ book.1.items ++ put ∷ [] → HasRoot v2 0 (1 ∷ []) [] [] true
+put_away k rows v0 v1 v2 book new put root learns other e1 g more free limbo =
+    let old_is : g.old ≡ book = same_book v0 v1 book g.old e1 g.found in
+    let apart = not_in_limbo rows v0 book put.row root learns in
+    let marked = put_marked v0 v1 book put.row root other e1 in
+    let taken : taken_rows stock g.old new ≡ [] = ap (λ (a : Stock). taken_rows stock a new) old_is ∙ taken_none k v1 book new put (ap (λ (v : View). v.core.has_book) e1) more free limbo apart marked in
+    let gone : put_list stock g.old new ≡ put ∷ [] = ap (λ (a : Stock). put_list stock a new) old_is ∙ put_is k v1 book new put (ap (λ (v : View). v.core.has_book) e1) more free limbo apart marked in
+    given_root v0 v1 v2 book new (newly_unlinked put.row ∷ []) [] [] true root e1 g
+    (ap (λ (v : View). v.core.granted) g.after ∙ (λ j. (ap (λ (v : View). v.core.granted) e1 ∙ root.granted) j ++ map newly_granted (taken j)))
+    (ap (λ (v : View). v.core.unlinked) g.after ∙ ((λ j. unlinked_after_give (gone j) ((ap (λ (v : View). v.core.unlinked) e1 ∙ root.unlinked) j))
+    ∙ ap (λ (b : Bool). cond (not b) (newly_unlinked put.row ∷ []) []) (among_true (put.row ∷ []) put.row (let one = times_one_same put.row put.row refl in omega arith))))

@@ -1,0 +1,9 @@
+pub mod Tally
+pub mod Stock
+pub mod Grafts
+pub mod Visits
+pub mod Closings
+pub mod SownPlaces
+pub mod SownSteps
+pub mod SownRoot
+pub mod SownPair
