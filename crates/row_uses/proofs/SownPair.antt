@@ -105,7 +105,7 @@ module _ (v0 v1 v2 : View) (book new : Seeds) (row : ℕ) (first second : Bed) (
   has_b : 1 ≤ times b.0 (b.0 ∷ a.0 ∷ [])
   has_b = let x = times-cons_same b.0 b.0 (a.0 ∷ []) refl in omega arith
 
-  two_rows : a.0 ≢ b.0
+  pub two_rows : a.0 ≢ b.0
   two_rows e = let x = ap (times b.0) draws.free in let y = times-append b.0 new.free.items (b.0 ∷ a.0 ∷ []) in let z = times-cons_same b.0 b.0 (a.0 ∷ []) refl in let w = times_one_same b.0 a.0 e in let o = free_once b.0 in omega arith
 
   free_small : (r : ℕ) → 1 ≤ times r book.free.items → r < 1024
@@ -119,6 +119,9 @@ module _ (v0 v1 v2 : View) (book new : Seeds) (row : ℕ) (first second : Bed) (
 
   pub small_b : b.0 < 1024
   small_b = free_small b.0 (taken_there b.0 has_b)
+
+  pub not_linked : (one : ℕ) → one ≡ link_word a.0 a.1 → link_row one ≢ b.0
+  not_linked one is e = two_rows (sym (ap link_row is ∙ link_row-link_word a.0 a.1 small_a) ∙ e)
 
   pub few_a : a.1 < 2 ^ 30
   few_a = let x = draws.few in let y = draws.number in let z = draws.number_after in omega arith
@@ -240,12 +243,6 @@ module _ (v0 v1 v2 : View) (book new : Seeds) (row : ℕ) (first second : Bed) (
                   last_is = s.last_is;
                   has_not = s.has_not;
                 }
-
-            pub may_open_b : MayOpen v7 b.0
-            may_open_b = record {
-              both_set = ap (find (λ (x : GrantedRow). eqb x.row b.0)) stage7.granted ∙ ap (λ (t : Bool). cond t (Some (done b.0)) None) (eq-eqb b.0 b.0 refl);
-              closed = ap (times b.0) stage7.held_are ∙ times_one_other b.0 h.row other_b;
-            }
 
             none_there : is_link (get_or half.words second.index 0) ≡ false
             none_there = ap is_link (get_or-set_other h.words first.index second.index one 0 (λ e. may.apart (sym e))) ∙ may.no_link
