@@ -1,5 +1,5 @@
 -- Rows that were set up can be opened after steps on other rows.
-use Rattle.std.proofs.Common.{◌≡◌, ◌≢◌, ℕ, eqb, not, cond, Bool, true, false, List, [], ◌∷◌, ◌++◌, map, sym, refl, ap, ◌∙◌, subst, arith, eq-eqb, ne_eqb, Option, Some, None}
+use Rattle.std.proofs.Common.{◌≡◌, ◌≢◌, ℕ, eqb, not, cond, Bool, true, false, List, [], ◌∷◌, map, sym, refl, ap, ◌∙◌, subst, arith, ne_eqb, Option, Some}
 use Rattle.std.specs.List.{filter, find}
 use mathlib.Core.Logic.{dite}
 use native.Mathlib.Decide.{ℕ_discrete}
@@ -8,8 +8,7 @@ use Rattle.walk_core.specs.declared.event.SetPart.{SetPart}
 use Rattle.walk_core.specs.declared.event.SetPart.TheVariants.{Position, Generation}
 use Rattle.walk_core.specs.declared.pass.GrantedRow.{GrantedRow}
 use Rattle.walk_core.specs.Words.{is_link, link_row}
-use Rattle.walk_core.specs.Lists.{times, without}
-use Rattle.walk_core.specs.Events.{with_part, granted_after_part, granted_after_entry}
+use Rattle.walk_core.specs.Events.{with_part, granted_after_part}
 use Rattle.walk_core.proofs.RowLists.{times-append, times_one_other, times_without_other}
 use Rattle.row_table.specs.declared.view.PassView.{PassView}
 use Rattle.row_table.specs.declared.view.HeldRow.{HeldRow}

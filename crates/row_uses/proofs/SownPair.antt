@@ -1,6 +1,6 @@
 -- What a pass of the plan with a list of positions may give that takes two rows, and what it has after each call of a sowing of both.
 use Rattle.std.proofs.Common.{◌≡◌, ◌≢◌, ℕ, ◌<◌, ◌≤◌, ◌⊎◌, eqb, cond, not, Bool, true, false, List, [], ◌∷◌, ◌++◌, map, set, sym, refl, ap, ◌∙◌, subst, ⊎_elim, arith, eq-eqb, ne_eqb, Option, Some, None, MatchOption, ◌+◌, ◌^◌, ◌||◌, get_or, get_or-set_other}
-use Rattle.std.specs.List.{Contains, find, list_any}
+use Rattle.std.specs.List.{Contains, list_any}
 use Rattle.std.proofs.lemmas.Bool.{cases_lt, cases_Bool}
 use Rattle.table_place.specs.declared.Place.{Place}
 use Rattle.table_place.specs.Place.{entry_place, is_place}
@@ -18,7 +18,7 @@ use Rattle.row_table.specs.Rule.{levels_of}
 use Rattle.row_table.specs.Vacant.{vacant_entries}
 use Rattle.row_table.specs.Moves.{released, Fits, NotInHand}
 use Rattle.row_table.specs.Books.{given, taken_rows, turned, Learns, Gives, MayGive, region}
-use Rattle.row_table.specs.Openings.{prepared, opened, MaySetUp, IsSetUp, MayOpen}
+use Rattle.row_table.specs.Openings.{prepared, opened, MaySetUp, IsSetUp}
 use Rattle.row_table.specs.Links.{MaySetEntry, Sets}
 use Rattle.row_uses.specs.Sown.{sown, lists, View, SameSeeds, same_place, KeepsListed, MaySowBoth, DrawsBoth, AreSown}
 use Rattle.row_table.proofs.Views.{in_head, in_tail}

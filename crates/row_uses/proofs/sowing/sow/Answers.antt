@@ -1,4 +1,4 @@
-use Rattle.std.proofs.Common.{ap, refl}
+use Rattle.std.proofs.Common.{ap}
 use Rattle.row_table.specs.Passes.{view_of}
 use Rattle.row_uses.specs.Sown.{View}
 use Rattle.row_uses.proofs.SownSteps.{kept_waiting, kept_undrawn, may_give_back, may_prepare, may_link, may_release_linked, small, child_fits, is_sown}
