@@ -2,7 +2,7 @@ use Rattle.std.proofs.Common.{rules, ℕ, Vec, Global}
 use Rattle.std.proofs.lemmas.List.Elements.{All-nil, All-push, All-same}
 use Rattle.row_table.specs.declared.pass.Pass.{Pass}
 use Rattle.row_uses.specs.declared.uses.Tally.{Tally}
-use Rattle.row_table.specs.contracts.uses.TallyPlan.TheImpl.{ghosts}
+use Rattle.row_uses.specs.contracts.uses.TallyPlan.TheImpl.{ghosts}
 use Rattle.row_table.specs.Rule.{view}
 use Rattle.row_table.specs.Close.{IsIdle}
 use Rattle.row_uses.proofs.tests.both.Goals as goal
