@@ -10,7 +10,7 @@ use lib.ListN.{get_elem?}
 use native.Mathlib.Decide.{ℕ_discrete}
 use mathlib.Core.Logic.{dite}
 use Rattle.atomic_table.specs.Table.{Final, Seen, Joins, Enters}
-use Rattle.atomic_table.proofs.Lists.{at_map, at_longer, at_last, at_set, at_snoc}
+use Rattle.atomic_table.proofs.Lists.{at_map, at_set, at_snoc}
 use Rattle.walk_core.specs.declared.pass.PassCore.{PassCore}
 use Rattle.walk_core.specs.Words.{epoch_at, book_at, stale}
 use Rattle.walk_core.specs.Lists.{times, Has}

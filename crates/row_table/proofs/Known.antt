@@ -1,5 +1,5 @@
 -- What the rule says of a row that a pass looks at or grabs, and which rows a pass keeps as there.
-use Rattle.std.proofs.Common.{◌≡◌, ◌≢◌, ℕ, ◌%◌, ◌<◌, ◌≤◌, true, List, get_or, sym, ap, ◌∙◌, subst, inl, inr, ⊎_elim, arith}
+use Rattle.std.proofs.Common.{◌≡◌, ◌≢◌, ℕ, ◌%◌, ◌<◌, ◌≤◌, true, List, length, get_or, sym, ap, ◌∙◌, subst, inl, inr, ⊎_elim, arith}
 use Rattle.std.specs.List.{Contains}
 use Rattle.std.proofs.lemmas.Bool.{cases_lt}
 use Rattle.std.proofs.lemmas.List.{get_or_past}
@@ -23,7 +23,7 @@ use Rattle.row_table.specs.Plan.{Meaning}
 use Rattle.row_table.specs.Rows.{row_words, place_at, generation_of}
 use Rattle.row_table.specs.Rule.{Table, levels_of, core_of, Holds}
 use Rattle.row_table.specs.Known.{LinksRow, IsKnownPlace, IsKnownGeneration, IsHolder, IsLoose, LinksBelow, LinksLead, IsRight}
-use Rattle.row_table.proofs.Shown.{word_at}
+use Rattle.row_table.proofs.Shown.{word_at, words_long}
 use Rattle.row_table.proofs.Hands.{rows_granted}
 use Rattle.row_table.proofs.Views.{pass_is, has_held}
 
@@ -89,6 +89,7 @@ module _ {R B E : Type 0} (M : Meaning R B E) (k : Layout) (first : B) (s : Tabl
         number = subst (λ (y : Layout). v.number < y.passes) (sym know.layout) know.there;
         rows = know.held;
         once = λ r. subst (λ (u : PassCore). times r u.held ≤ 1) is (h.good.locks.rows.once v.number r);
+        long = λ y i. ap length (sym (know.rows y i).shown) ∙ words_long s.words y.row;
         hand = rows_granted v.hand v.core.granted know.granted;
         parity = ap (λ (e : ℕ). e % 2) (sym know.epoch) ∙ (h.good.stands.parity v.number know.there ∙ ap (λ (u : PassCore). inside u.stand) is);
         bounded = (let low = h.good.stands.bounded v.number know.there in let e = know.epoch in omega arith);

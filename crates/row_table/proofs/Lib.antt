@@ -18,6 +18,7 @@ pub mod Crossings
 pub mod Looks
 pub mod Marks
 pub mod Openings
+pub mod Ready
 pub mod StartWords
 pub mod Links
 pub mod Sized

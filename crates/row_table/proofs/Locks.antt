@@ -29,7 +29,7 @@ use Rattle.row_table.specs.declared.view.HeldRow.{HeldRow}
 use Rattle.row_table.specs.declared.plan.Content.TheVariants.{Row}
 use Rattle.row_table.specs.Plan.{Meaning}
 use Rattle.row_table.specs.Rows.{row_words, place_at, generation_of}
-use Rattle.row_table.specs.Rule.{Slot, Homes, Seat, levels_of, view, IsOne, row_part, core_of, Agrees, IsHeldRow, Knows, Holds}
+use Rattle.row_table.specs.Rule.{Slot, Homes, Seat, Table, levels_of, view, IsOne, row_part, core_of, Contents, Agrees, IsHeldRow, Knows, Holds}
 use Rattle.row_table.specs.Vacant.{KeepsVacant}
 use Rattle.row_table.specs.Moves.{grabbed, looked, got, released, NotInHand, GrabSays, GrabTells, ReleaseTells, MayGrab, Fits}
 use Rattle.row_table.proofs.Shown.{words_long, ShowSame, lock_shows}
@@ -193,42 +193,46 @@ module _ {R B E : Type 0} (M : Meaning R B E) where
             ),
       ))
 
-  pub releases : (k : Layout) (first : B) (slots id : ℕ) (m : Seat R B E) (n r : ℕ) (x : R) → IsOne n m → Has (view m).core.held r → NotInHand (view m) r → Fits M (view m) r x → m.1 ≡ (r, Some (Row x)) ∷ rest m.1
-      → Allows (Holds M k first) slots id m (lock_at r) (λ _. 0) (λ _. ReleaseTells (step slots (lock_at r) 0 0 none) m 0)
-  releases k first slots id m n r x one held linked fits front =
+  -- a row's content comes home while its lock word is written: a step of either kind shows what the word says of the row, and that the rule holds then
+  pub comes_home : (k : Layout) (first : B) (slots id : ℕ) (m : Seat R B E) (n r word : ℕ) (x : R) → IsOne n m → Has (view m).core.held r → m.1 ≡ (r, Some (Row x)) ∷ rest m.1
+      → ((s : Table R B E) (h : Holds M k first s) → get_elem? s.views id ≡ some (view m ∷ []) → get_elem? h.passes (view m).number ≡ some (view m) → r < k.rows → r < length s.homes
+      → let us : List ℕ = set s.words (lock_at r) word in let homes : Homes R B = set s.homes r (some (Some (Row x))) in
+      RowHome M k us h.book homes r word
+      × (Contents M k us h.book homes → ShowSame k s.words us → Knows M k first us h.book (released (view m) r) → Holds M k first (record { words = us; homes = homes; views = set s.views id (released (view m) r ∷ []) })))
+      → Allows (Holds M k first) slots id m (lock_at r) (λ _. word) (λ _. ReleaseTells (step slots (lock_at r) word 0 none) m word)
+  comes_home k first slots id m n r word x one held front kind =
       let v : PassView R B E = view m in let cs : List (ℕ × Slot R B) = rest m.1 in
       let is : Path (Seat R B E) (v ∷ [], (r, Some (Row x)) ∷ cs) m = λ i. (sym one.0 i, sym front i) in
-      subst (λ (y : Seat R B E). Allows (Holds M k first) slots id y (lock_at r) (λ _. 0) (λ _. ReleaseTells (step slots (lock_at r) 0 0 none) y 0)) is
+      subst (λ (y : Seat R B E). Allows (Holds M k first) slots id y (lock_at r) (λ _. word) (λ _. ReleaseTells (step slots (lock_at r) word 0 none) y word)) is
       (λ s h long me _.
       let mine : get_elem? h.passes v.number ≡ some v = (h.seats id (v ∷ []) me 0 v refl).0 in
-      let know = h.knows v.number v mine in
-      let in_tree = is_linked M k first s h v mine r held linked in
-      let less : r < k.rows = in_tree.there in
-      let wide = h.good.sizes.words in let few = h.good.sizes.bounds.count_high in
-      let near : lock_at r < length s.words = omega arith in
-      let slots_are = h.slots in
-      let inside : r < length s.homes = omega arith in
-      let shows = lock_shows k s.words r 0 less in
+      let less : r < k.rows = (h.good.locks.rows.held v.number r (has_held M k first s h v mine r held)).there in
+      let wide = h.good.sizes.words in let few = h.good.sizes.bounds.count_high in let slots_are = h.slots in
       let homes : Homes R B = set s.homes r (some (Some (Row x))) in
-      let w : PassView R B E = released v r in (
-        w ∷ [],
+      let shows = lock_shows k s.words r word less in
+      let t = kind s h me mine less (omega arith) in (
+        released v r ∷ [],
         gives,
         tt,
-        moved_here M k first s h id v w (Release n r) homes me (sym one.1) refl (held, in_tree) refl refl refl (length-set s.homes r (some (Some (Row x))))
-            (contents_locked M k s.words h.book r 0 s.homes homes less near h.contents
-            (λ q ne. set_else s.homes r q (some (Some (Row x))) ne)
-            (record {
-              linked = λ _. (
-                x,
-                lists.set_here s.homes r (some (Some (Row x))) inside,
-                (let z = shows.rows r less in subst (λ (p : Place). M.agrees h.book p (row_words (set s.words (lock_at r) 0) r) x) (sym z.place)
-                    (subst (λ (xs : List ℕ). M.agrees h.book (place_at s.words r) xs x) (sym z.words) (fitting k first s.words h.book v r x know linked fits))),
-              );
-              others = λ z. absurd (omega arith);
-            }))
-            shows
-            (holds_less k first s.words (set s.words (lock_at r) 0) h.book v r shows know),
+        t.1 (contents_locked M k s.words h.book r word s.homes homes less (omega arith) h.contents (λ q ne. set_else s.homes r q (some (Some (Row x))) ne) t.0) shows
+            (holds_less k first s.words (set s.words (lock_at r) word) h.book v r shows (h.knows v.number v mine)),
         λ q same. let e : r ≡ q = omega arith in ap (λ (y : ℕ). (released v y ∷ [], cs)) e,
+      ))
+
+  pub releases : (k : Layout) (first : B) (slots id : ℕ) (m : Seat R B E) (n r : ℕ) (x : R) → IsOne n m → Has (view m).core.held r → NotInHand (view m) r → Fits M (view m) r x → m.1 ≡ (r, Some (Row x)) ∷ rest m.1
+      → Allows (Holds M k first) slots id m (lock_at r) (λ _. 0) (λ _. ReleaseTells (step slots (lock_at r) 0 0 none) m 0)
+  releases k first slots id m n r x one held linked fits front = comes_home k first slots id m n r 0 x one held front (λ s h me mine less inside.
+      let v : PassView R B E = view m in let z = (lock_shows k s.words r 0 less).rows r less in (
+        record {
+          linked = λ _. (
+            x,
+            lists.set_here s.homes r (some (Some (Row x))) inside,
+            subst (λ (p : Place). M.agrees h.book p (row_words (set s.words (lock_at r) 0) r) x) (sym z.place)
+                (subst (λ (xs : List ℕ). M.agrees h.book (place_at s.words r) xs x) (sym z.words) (fitting k first s.words h.book v r x (h.knows v.number v mine) linked fits)),
+          );
+          others = λ z. absurd (omega arith);
+        },
+        moved_here M k first s h id v (released v r) (Release n r) (set s.homes r (some (Some (Row x)))) me (sym one.1) refl (held, is_linked M k first s h v mine r held linked) refl refl refl (length-set s.homes r (some (Some (Row x)))),
       ))
 
   -- the same where the place and the number are known by equations

@@ -19,7 +19,7 @@ use Rattle.walk_core.specs.declared.pass.PassCore.{PassCore}
 use Rattle.walk_core.specs.Words.{entry_at, lock_at, position_at, generation_at, position_word, place_shown, stale}
 use Rattle.walk_core.specs.Lists.{times, Has}
 use Rattle.walk_core.specs.Core.{Core, pass_at, granted_rows, granted_at, set_up, times_in_hand, times_out}
-use Rattle.walk_core.specs.Events.{granted_after_part, pass_of, place_of, pass_after, free_after, limbo_after}
+use Rattle.walk_core.specs.Events.{granted_after_part, place_of}
 use Rattle.walk_core.specs.Guards.{MayWrite}
 use Rattle.walk_core.proofs.RowLists.{granted_found}
 use Rattle.walk_core.proofs.Facts.{hand-le-out, hand_there}

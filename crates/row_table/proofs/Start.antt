@@ -26,7 +26,7 @@ use Rattle.row_table.specs.declared.view.PassView.{PassView}
 use Rattle.row_table.specs.declared.plan.Content.TheVariants.{Row, Book}
 use Rattle.row_table.specs.Plan.{Meaning, IsLawful}
 use Rattle.row_table.specs.Rows.{row_words, place_at, lock_of, generation_of}
-use Rattle.row_table.specs.Rule.{Slot, Seat, Homes, Table, levels_of, SameRows, unmoved, boot_from, boot_views, core_part, core_of, Seats, Contents, Knows, Holds}
+use Rattle.row_table.specs.Rule.{Slot, Seat, Homes, levels_of, unmoved, boot_from, boot_views, core_part, core_of, Seats, Knows, Holds}
 use Rattle.row_table.specs.Start.{start_words, row_slot, start_slots, MayStart, first_pass, other_passes}
 use Rattle.row_table.proofs.Known.{held_below}
 

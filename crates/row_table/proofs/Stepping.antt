@@ -1,5 +1,5 @@
 -- What a pass has after a call is what the event of that name makes of it.
-use Rattle.std.proofs.Common.{◌≡◌, ◌≢◌, ℕ, ◌+◌, Bool, true, false, cond, not, List, [], ◌∷◌, ◌++◌, map, sym, refl, ap, ◌∙◌, arith, eqb, ne_eqb, Ok}
+use Rattle.std.proofs.Common.{◌≡◌, ℕ, ◌+◌, Bool, true, false, cond, not, [], ◌∷◌, ◌++◌, sym, refl, ap, ◌∙◌, arith, eqb, ne_eqb, Ok}
 use Rattle.std.specs.List.{Contains, filter}
 use Rattle.walk_core.specs.declared.event.Event.{Event}
 use Rattle.walk_core.specs.declared.event.Event.TheVariants.{Enter, Look, Grab, Turn, SetEntry, Unlink, OpenRow}

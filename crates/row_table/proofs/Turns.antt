@@ -42,7 +42,7 @@ use Rattle.row_table.proofs.Known.{right_now}
 use Rattle.row_table.proofs.Shown.{ShowSame, book_shows}
 use Rattle.row_table.proofs.Hands.{same_maps}
 use Rattle.row_table.proofs.Frames.{moved, moved_here, knows_shown, contents_booked}
-use Rattle.row_table.proofs.Views.{head_or_later, pass_is, knows_it, is_linked, held_of_row, has_held}
+use Rattle.row_table.proofs.Views.{head_or_later, pass_is, is_linked, held_of_row, has_held}
 use Rattle.row_table.proofs.Regions.{untouched}
 use Rattle.row_table.proofs.Vacant.{vacant_given, vacant_kept}
 

@@ -5,7 +5,7 @@
 --     LinksBelow, LinksLead      the rows that entry words link are there, and at positions of tables
 --     IsRight      what is always true of what a pass knows
 --     IsSized      what a pass keeps of the sizes of its table and of the rows of its view
-use Rattle.std.specs.Prelude.{◌≡◌, ◌≢◌, ℕ, ◌+◌, ◌%◌, ◌^◌, ◌<◌, ◌≤◌, ◌⊎◌, true, List, map, slice_index, Some}
+use Rattle.std.specs.Prelude.{◌≡◌, ◌≢◌, ℕ, ◌+◌, ◌%◌, ◌^◌, ◌<◌, ◌≤◌, ◌⊎◌, true, List, map, length, slice_index, Some}
 use Rattle.std.specs.List.{Contains}
 use Rattle.atomic_table.specs.Seated.{TableId}
 use Rattle.table_place.specs.declared.Place.{Place}
@@ -29,11 +29,12 @@ abbrev pub LinksLead : ℕ → Place → List ℕ → Type 0
 LinksLead levels place words = (index : ℕ) → index < 512 → is_link (slice_index words index) ≡ true → is_place levels (entry_place levels place index) ≡ true
 
 module _ {R B E : Type 0} where
-  -- The rows of the view are those that the pass holds, each once, and those of its hand the ones that it was granted. Its epoch is odd where it is inside.
+  -- The rows of the view are those that the pass holds, each once and with 512 entry words, and those of its hand the ones that it was granted. Its epoch is odd where it is inside.
   pub record IsRight (v : PassView R B E) : Type 0 where
     pub number : v.number < v.layout.passes
     pub rows : map row_part v.rows ≡ v.core.held
     pub once : IsDistinct v.core.held
+    pub long : (h : HeldRow R) → Contains v.rows h → length h.words ≡ 512
     pub hand : map hand_part v.hand ≡ granted_rows v.core
     pub parity : v.epoch % 2 ≡ inside_now v.core.stand
     pub bounded : v.epoch ≤ 2 ^ 62

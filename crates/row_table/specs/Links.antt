@@ -3,8 +3,9 @@
 --     word_set, link_set, entry_set      the pass after it stored an entry that is no link, one that is, and either
 --     entry_cut      the pass after it unlinked a row
 --     LinksHand, MaySetEntry, SetTells, Sets      when a pass may store an entry, what the step tells, and what the call does
+--     KeepsUnlinked      after it, each row that could be opened and that it does not link can be opened
 --     MayUnlink, CutTells, Unlinks      the same of unlink
-use Rattle.std.specs.Prelude.{◌≡◌, ℕ, ◌<◌, ◌⊎◌, cond, not, true, false, [], ◌∷◌, ◌++◌, map, slice_index, slice_set, nat_eq, None}
+use Rattle.std.specs.Prelude.{◌≡◌, ◌≢◌, ℕ, ◌<◌, ◌⊎◌, cond, not, true, false, [], ◌∷◌, ◌++◌, map, slice_index, slice_set, nat_eq, None}
 use Rattle.std.specs.List.{Contains, filter}
 use Rattle.atomic_table.specs.Table.{Step}
 use Rattle.table_place.specs.Place.{entry_place}
@@ -17,6 +18,7 @@ use Rattle.row_table.specs.declared.view.HandRow.{HandRow}
 use Rattle.row_table.specs.Vacant.{all_entries}
 use Rattle.row_table.specs.Rule.{Slot, Seat, levels_of, view}
 use Rattle.row_table.specs.Moves.{NotInHand}
+use Rattle.row_table.specs.Openings.{MayOpen}
 
 module _ {R : Type 0} where
   abbrev pub with_word : ℕ → ℕ → ℕ → HeldRow R → HeldRow R
@@ -76,6 +78,10 @@ module _ {R B E : Type 0} where
 
   abbrev pub Sets : ℕ → ℕ → ℕ → PassView R B E → PassView R B E → Type 0
   Sets row index word v w = (linker : HeldRow R) → Contains v.rows linker → linker.row ≡ row → w ≡ entry_set v linker index word
+
+  -- each row that could be opened and that the word does not link still can
+  abbrev pub KeepsUnlinked : ℕ → PassView R B E → PassView R B E → Type 0
+  KeepsUnlinked word v w = (r : ℕ) → (is_link word ≡ true → link_row word ≢ r) → MayOpen v r → MayOpen w r
 
   -- Unlink
 

@@ -2,8 +2,9 @@
 --     placed, numbered, prepared      the pass after it set up a position, a generation, and both
 --     opened      the pass after it opened a row
 --     MaySetUp, PlaceTells, NumberTells      when a pass may set up a row, and what its two steps tell
---     MayOpen, IsSetUp, OpenSays, OpenTells, Opens      when a pass may open a row, the row of the hand and the position that it was set up with, and what an opening tells and answers
-use Rattle.std.specs.Prelude.{◌≡◌, ℕ, ◌<◌, ◌≤◌, cond, true, false, [], ◌∷◌, ◌++◌, map, nat_eq, None, Some}
+--     MayOpen, KeepsOpen      when a pass may open a row, and a step after which it may open each other row that it could open
+--     IsSetUp, OpenSays, OpenTells, Opens      the row of the hand and the position that it was set up with, and what an opening tells and answers
+use Rattle.std.specs.Prelude.{◌≡◌, ◌≢◌, ℕ, ◌<◌, ◌≤◌, cond, true, false, [], ◌∷◌, ◌++◌, map, nat_eq, None, Some}
 use Rattle.std.specs.List.{Contains}
 use Rattle.atomic_table.specs.Table.{Step}
 use Rattle.table_place.specs.declared.Place.{Place}
@@ -69,6 +70,10 @@ module _ {R B E : Type 0} where
   pub record MayOpen (v : PassView R B E) (row : ℕ) : Type 0 where
     pub both_set : granted_at v.core row ≡ set_up row
     pub closed : times row v.core.held ≡ 0
+
+  -- each other row that could be opened still can
+  abbrev pub KeepsOpen : ℕ → PassView R B E → PassView R B E → Type 0
+  KeepsOpen row v w = (r : ℕ) → r ≢ row → MayOpen v r → MayOpen w r
 
   -- the only row of the hand with this number, and the position with which it was set up
   pub record IsSetUp (v : PassView R B E) (row : ℕ) : Type 0 where

@@ -1,7 +1,7 @@
 //! Set entry and unlink.
 ghost use Rattle.std.specs.Prelude.{◌≡◌};
 ghost use Rattle.row_table.specs.Passes.{view_of, kit_of, table_of, IsPassOf};
-ghost use Rattle.row_table.specs.Links.{MaySetEntry, Sets, MayUnlink, Unlinks};
+ghost use Rattle.row_table.specs.Links.{MaySetEntry, Sets, KeepsUnlinked, MayUnlink, Unlinks};
 
 use crate::pass::Pass;
 use crate::plan::{Content, Plan};
@@ -34,6 +34,7 @@ impl<P: Plan> Pass<P> {
         ensures table { table_of self.new ≡ table_of self.old }
         ensures same { kit_of self.new ≡ kit_of self.old }
         ensures sets { Sets row index word (view_of self.old) (view_of self.new) }
+        ensures others { KeepsUnlinked word (view_of self.old) (view_of self.new) }
     {
         let place = iron.layout.entry(row, index) as usize;
         iron.table

@@ -2,7 +2,7 @@
 ghost use Rattle.std.specs.Prelude.{◌≡◌, ◌<◌, ◌^◌};
 ghost use Rattle.walk_core.specs.Words as words;
 ghost use Rattle.row_table.specs.Passes.{view_of, kit_of, table_of, IsPassOf};
-ghost use Rattle.row_table.specs.Openings.{MaySetUp, MayOpen, Opens, prepared};
+ghost use Rattle.row_table.specs.Openings.{MaySetUp, MayOpen, KeepsOpen, Opens, prepared};
 
 use crate::pass::Pass;
 use crate::plan::{Content, Plan};
@@ -57,6 +57,7 @@ impl<P: Plan> Pass<P> {
         ensures same { kit_of self.new ≡ kit_of self.old }
         ensures sets_up { view_of self.new ≡ prepared (view_of self.old) row place generation }
         ensures may_open { MayOpen (view_of self.new) row }
+        ensures others { KeepsOpen row (view_of self.old) (view_of self.new) }
     {
         let place_word = iron.layout.position(row) as usize;
         let spelled = position_word(place);
@@ -76,6 +77,7 @@ impl<P: Plan> Pass<P> {
         ensures table { table_of self.new ≡ table_of self.old }
         ensures same { kit_of self.new ≡ kit_of self.old }
         ensures opens { Opens P.meaning row (view_of self.old) result (view_of self.new) }
+        ensures others { KeepsOpen row (view_of self.old) (view_of self.new) }
     {
         let word = iron.layout.lock(row) as usize;
         let mine = u64::from(self.number) + 1;

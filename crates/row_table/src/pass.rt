@@ -4,6 +4,7 @@ ghost use Rattle.std.specs.VecDeque.{deque_capacity};
 ghost use Rattle.row_table.specs.Rule.{view, IsOne, SameRows};
 ghost use Rattle.row_table.specs.Known.{IsSized};
 ghost use Rattle.row_table.specs.Moves.{MayGrab, NotInHand, Fits, released};
+ghost use Rattle.row_table.specs.Openings.{KeepsOpen};
 ghost use Rattle.row_table.specs.Stack.{outs, carried, AreRows};
 ghost use Rattle.row_table.specs.Books.{Turns, Gives, IsGivable};
 ghost use Rattle.row_table.specs.Calls.{Grabs};
@@ -108,6 +109,7 @@ impl<P: Plan> Pass<P> {
         ensures table { table_of self.new ≡ table_of self.old }
         ensures same { kit_of self.new ≡ kit_of self.old }
         ensures releases { view_of self.new ≡ released (view_of self.old) row }
+        ensures others { KeepsOpen row (view_of self.old) (view_of self.new) }
     {
         bring(&mut self.seat, &mut self.stack, row);
         self.stack.pop_front();

@@ -70,7 +70,6 @@ took v0 v1 v2 v3 v4 v5 n m x p idle e1 e2 is f e3 e4 r e5 z =
       there = subst (λ (l : List (HeldRow ℕ)). Contains l g) (sym (ap (λ (v : View). v.rows) e5)) here;
       number = refl;
       place = f.known.of_stand _ stand refl ∙ ap (λ (y : Layout). entry_place (levels_of y) directory 0) (sym layout);
-      long = f.all;
       word_five = sym (r.holds g here refl) ∙ z;
       is_given = refl;
       last = λ e. absurd (cc);
@@ -92,7 +91,6 @@ given_root v0 v1 v2 book new us gs ws b root e1 g granted unlinked =
       there = subst (λ (l : List (HeldRow ℕ)). Contains l (given root.row_one)) (sym (ap (λ (v : View). v.rows) g.after ∙ ap (λ (v : View). map given v.rows) e1)) (in_map given v0.rows root.row_one root.there);
       number = root.number;
       place = root.place ∙ ap (λ (y : Layout). entry_place (levels_of y) directory 0) (sym layout);
-      long = root.long;
       word_five = root.word_five;
       is_given = refl;
       last = λ _. (new, ap (λ (v : View). v.last) g.after);
@@ -108,6 +106,7 @@ same_book v0 v1 book a e found = let is : Some a ≡ Some book = sym found ∙ a
 
 pub granted_one : (k : Layout) (rows : ℕ) (v0 v1 v2 : View) (book new : Stock) (row : ℕ) (b : Bool) → HasRoot v0 0 (1 ∷ []) [] [] b → Learns stock rows v0 book → v1 ≡ turned stock v0 book → (g : Gives stock v1 new v2)
     → new.2 ≡ book.2 + 1 → book.0.items ≡ new.0.items ++ row ∷ [] → new.1.items ≡ book.1.items → row < 1024 → book.2 < 2 ^ 30 → HasGrant v2 row book.2
+unfolding given_root
 granted_one k rows v0 v1 v2 book new row b root learns e1 g next front limbo small few =
     let old_is : g.old ≡ book = same_book v0 v1 book g.old e1 g.found in
     let taken : taken_rows stock g.old new ≡ row ∷ [] = ap (λ (a : Stock). taken_rows stock a new) old_is
@@ -120,6 +119,7 @@ granted_one k rows v0 v1 v2 book new row b root learns e1 g next front limbo sma
     let low : g.old.2 ≡ book.2 = ap (λ (a : Stock). a.2) old_is in
     record {
       root = given_root v0 v1 v2 book new [] (newly_granted row ∷ []) [] b root e1 g granted unlinked;
+      long = learns.right.long root.row_one root.there;
       known = x;
       in_hand = subst (λ (l : List HandRow). Contains l x) (sym (ap (λ (v : View). v.hand) g.after)) (Contains-append_right v1.hand (hand_rows stock g.grants.generation g.old new (taken_rows stock g.old new)) x
           (subst (λ (l : List ℕ). Contains (hand_rows stock g.grants.generation g.old new l) x) (sym taken) (in_head x [])));
@@ -304,13 +304,13 @@ link_one v v1 v2 v3 row g word may e1 at e2 is sets =
     let rows : v3.rows ≡ map f v2.rows = ap (λ (u : View). u.rows) e3 in
     let layout : v3.layout ≡ v.layout = ap (λ (u : View). u.layout) e3 ∙ o.layout in
     let done : GrantedRow = record { row = row; has_position = true; has_generation = true } in
-    let long = root.long in let five : get_or (set r.words 5 word) 5 0 ≡ word = get_or-set_same r.words 5 word 0 (omega arith) in
+    let long = may.long in let five : get_or (set r.words 5 word) 5 0 ≡ word = get_or-set_same r.words 5 word 0 (omega arith) in
     record {
       linker = record z { vacant = without 5 r.vacant };
       there = subst (λ (xs : List (HeldRow ℕ)). Contains xs (record z { vacant = without 5 r.vacant })) (sym rows) (subst (Contains (map f v2.rows)) root_is (in_map f v2.rows r (o.root_there r root.there)));
       number = root.number;
       place = root.place ∙ ap (λ (y : Layout). entry_place (levels_of y) directory 0) (sym layout);
-      long = length-set r.words 5 word ∙ root.long;
+      long = length-set r.words 5 word ∙ may.long;
       link = ap is_link five ∙ l.link;
       to_row = ap link_row five ∙ l.to_row;
       is_given = root.is_given;
@@ -371,7 +371,6 @@ module _ (v3 v4 v5 : View) (row : ℕ) (o : HasGraft v3 row) where
           there = subst (λ (xs : List (HeldRow ℕ)). Contains xs y) (sym (ap (λ (u : View). u.rows) e5)) (kept_in (λ (h : HeldRow ℕ). not (eqb h.row row)) v4.rows y there4 (ap not other));
           number = o.number;
           place = o.place ∙ ap (λ (k : Layout). entry_place (levels_of k) directory 0) (sym layout);
-          long = length-set r.words 5 0 ∙ o.long;
           word_five = get_or-set_same r.words 5 0 0 (omega arith);
           is_given = o.is_given;
           last = λ _. (o.last.0, ap (λ (u : View). u.last) e5 ∙ (ap (λ (u : View). u.last) cut_is ∙ o.last.1));

@@ -1,255 +1,33 @@
 -- What a pass of the plan with a list of positions may give that takes two rows, and what it has after each call of a sowing of both.
-use Rattle.std.proofs.Common.{◌≡◌, ◌≢◌, ℕ, ◌+◌, ◌^◌, ◌<◌, ◌≤◌, ◌||◌, eqb, cond, not, Bool, true, false, List, [], ◌∷◌, ◌++◌, map, get_or, set, inr, sym, refl, ap, ◌∙◌, subst, ⊎_elim, arith, eq-eqb, ne_eqb, get_or-set_other, append-nil, Option, Some, None, MatchOption}
-use Rattle.std.specs.List.{Contains, filter, AllByRecursion, find, list_any}
+use Rattle.std.proofs.Common.{◌≡◌, ◌≢◌, ℕ, ◌<◌, ◌≤◌, eqb, cond, not, Bool, true, false, List, [], ◌∷◌, ◌++◌, map, set, sym, refl, ap, ◌∙◌, subst, ⊎_elim, arith, eq-eqb, ne_eqb, Option, Some, None, MatchOption, ◌+◌, ◌^◌, ◌||◌, get_or, get_or-set_other}
+use Rattle.std.specs.List.{Contains, list_any}
 use Rattle.std.proofs.lemmas.Bool.{cases_lt, cases_Bool}
-use Rattle.std.proofs.lemmas.List.Folds.{list_any-append}
-use Rattle.std.proofs.lemmas.List.Elements.{filter-append}
-use mathlib.Core.Logic.{dite}
-use native.Mathlib.Decide.{ℕ_discrete}
 use Rattle.table_place.specs.declared.Place.{Place}
 use Rattle.table_place.specs.Place.{entry_place, is_place}
-use Rattle.walk_core.specs.declared.event.SetPart.{SetPart}
-use Rattle.walk_core.specs.declared.event.SetPart.TheVariants.{Position, Generation}
-use Rattle.walk_core.specs.declared.lists.PutRow.{PutRow}
 use Rattle.walk_core.specs.declared.pass.GrantedRow.{GrantedRow}
-use Rattle.walk_core.specs.declared.pass.Stand.{Stand}
-use Rattle.walk_core.specs.Words.{is_link, link_row, link_generation, link_word}
-use Rattle.walk_core.specs.Lists.{times, Has, without, minus, among}
-use Rattle.walk_core.specs.Events.{newly_granted, granted_after_part, granted_after_entry, with_part}
-use Rattle.walk_core.specs.Guards.{put_rows, MayPut}
-use Rattle.walk_core.proofs.RowLists.{times-nil, times-cons_same, times-cons_other, times-append, times_one_same, times_one_other, times_minus_same, times_minus_other, times_dropped, times_without_other, among_true, among_false}
-use Rattle.walk_core.proofs.Spellings.{link_row-link_word, link_generation-link_word, is_link-link_word}
+use Rattle.walk_core.specs.Words.{is_link, link_row, link_word}
+use Rattle.walk_core.specs.Lists.{times, Has, without}
+use Rattle.walk_core.specs.Events.{newly_granted}
+use Rattle.walk_core.proofs.RowLists.{times-nil, times-append, times_one_same, times_one_other, times-cons_same, times-cons_other, times_without_other}
+use Rattle.walk_core.proofs.Spellings.{link_row-link_word, is_link-link_word}
 use Rattle.row_layout.specs.declared.places.Layout.{Layout}
 use Rattle.row_table.specs.declared.view.HeldRow.{HeldRow}
 use Rattle.row_table.specs.declared.view.HandRow.{HandRow}
 use Rattle.row_uses.specs.declared.sowing.Seeds.{Seeds}
+use Rattle.row_table.specs.Rule.{levels_of}
+use Rattle.row_table.specs.Vacant.{vacant_entries}
+use Rattle.row_table.specs.Moves.{released, Fits, NotInHand}
+use Rattle.row_table.specs.Books.{given, taken_rows, turned, Learns, Gives, MayGive, region}
+use Rattle.row_table.specs.Openings.{prepared, opened, MaySetUp, IsSetUp}
+use Rattle.row_table.specs.Links.{MaySetEntry, Sets}
+use Rattle.row_uses.specs.Sown.{sown, lists, View, SameSeeds, same_place, KeepsListed, MaySowBoth, DrawsBoth, AreSown}
+use Rattle.row_table.proofs.Views.{in_head, in_tail}
+use Rattle.row_table.proofs.Vacant.{is_vacant}
+use Rattle.row_uses.proofs.SownPlaces.{few_levels, Splits, splits, touched, same_is, same_self}
+use Rattle.std.proofs.lemmas.List.Folds.{list_any-append}
 use Rattle.row_uses.specs.declared.sowing.Bed.{Bed}
 use Rattle.row_table.specs.Plan.{IsUntouched}
-use Rattle.row_table.specs.Rule.{levels_of}
-use Rattle.row_table.specs.Vacant.{all_entries, vacant_entries}
-use Rattle.row_table.specs.Moves.{released, Fits, NotInHand}
-use Rattle.row_table.specs.Books.{given, region, swept_rows, taken_rows, put_list, book_core, turned, Learns, Gives, MayGive}
-use Rattle.row_table.specs.Openings.{with_place, with_number, opened_row, prepared, opened, MaySetUp, MayOpen, IsSetUp}
-use Rattle.row_table.specs.Links.{with_word, newly_linked, with_link, link_set, word_set, MaySetEntry, Sets}
-use Rattle.row_uses.specs.Sown.{sown, same_place, lists, View, SameSeeds, KeepsListed, MaySowBoth, DrawsBoth, AreSown}
-use Rattle.row_table.proofs.Views.{in_head, in_tail}
-use Rattle.row_table.proofs.Turns.{has_contained}
-use Rattle.row_table.proofs.Beside.{has_part}
-use Rattle.row_table.proofs.Vacant.{is_vacant}
-use Rattle.row_uses.proofs.Stock.{filter_all, filter_none, minus_none, minus_has, limbo_same, empty_journal}
-use Rattle.row_uses.proofs.SownPlaces.{few_levels, Splits, splits, same_is, same_self, touched}
-use Rattle.row_uses.proofs.SownSteps.{Stage, gave_stage, old_is, keeps_after, may_return}
-
--- A give that takes these rows of the end of the free ones
-
-module _ (k : Layout) (v : View) (old new : Seeds) (ts : List ℕ) (has : v.core.has_book ≡ true) (limbo : new.limbo.items ≡ old.limbo.items) (front : old.free.items ≡ new.free.items ++ ts)
-    (once : (q : ℕ) → times q old.free.items ≤ 1) where
-  nothing_swept : swept_rows sown old new ≡ []
-  nothing_swept = minus_none (put_rows new.limbo.items) (put_rows old.limbo.items) (λ x i. has_contained (put_rows new.limbo.items) x (subst (λ (l : List PutRow). Contains (put_rows l) x) (sym limbo) i))
-
-  nothing_put : put_list sown old new ≡ []
-  nothing_put = filter_none (λ y. not (among (put_rows old.limbo.items) y.row)) new.limbo.items
-      (λ y i. ap not (among_true (put_rows old.limbo.items) y.row (has_part (λ (z : PutRow). z.row) old.limbo.items y (subst (λ (l : List PutRow). Contains l y) limbo i))))
-
-  split_count : (q : ℕ) → times q new.free.items + times q ts ≤ 1
-  split_count q = let o = once q in let a = ap (times q) front in let b = times-append q new.free.items ts in omega arith
-
-  pub taken_are : taken_rows sown old new ≡ ts
-  taken_are = (λ j. minus new.free.items (front j ++ nothing_swept j)) ∙ (ap (minus new.free.items) (append-nil (new.free.items ++ ts))
-      ∙ (filter-append (λ x. not (among new.free.items x)) new.free.items ts
-      ∙ (λ j. minus_none new.free.items new.free.items (λ x i. has_contained new.free.items x i) j
-      ++ filter_all (λ x. not (among new.free.items x)) ts (λ x i. ap not (among_false new.free.items x (let h = has_contained ts x i in let c = split_count x in omega arith))) j)))
-
-  pub may_take_all : old.next ≤ new.next → KeepsListed (region v) old new → MayGive sown k v old new
-  may_take_all more keeps = record {
-    follows = (more, keeps);
-    names = λ e is. empty_journal e is;
-    guard = record {
-      has_book = has;
-      put_once = λ q. let z = ap (λ l. times q (put_rows l)) nothing_put ∙ times-nil q in omega arith;
-      swept_once = λ q. let z = ap (times q) nothing_swept ∙ times-nil q in omega arith;
-      taken_once = λ q. let z = ap (times q) taken_are in let c = split_count q in omega arith;
-      apart = λ q i. ap (times q) nothing_swept ∙ times-nil q;
-      put_marked = λ q i. let z = ap (λ l. times q (put_rows l)) nothing_put ∙ times-nil q in absurd (omega arith);
-      put_sampled = subst (AllByRecursion (MayPut (book_core sown k old) v.core)) (sym nothing_put) tt;
-      swept_unread = nothing_swept;
-      taken_free = λ q i. minus_has new.free.items (old.free.items ++ swept_rows sown old new) q i;
-    };
-    free = λ q. ap (times q) (λ j. minus (taken_are j) (front j ++ nothing_swept j)) ∙ (let all = times-append q (new.free.items ++ ts) [] in let some_list = times-append q new.free.items ts in let n = times-nil q in let c = split_count q in
-        dite (ℕ_discrete (times q ts) 0)
-        (λ z. let same = times_minus_other ts ((new.free.items ++ ts) ++ []) q z in omega arith)
-        (λ nz. let zero = times_minus_same ts ((new.free.items ++ ts) ++ []) q (omega arith) in omega arith));
-    limbo = limbo ∙ (sym (append-nil old.limbo.items) ∙ (λ j. sym (limbo_same (swept_rows sown old new) old.limbo.items nothing_swept) j ++ sym nothing_put j));
-  }
-
--- Rows of the hand that are set up
-
-abbrev pub done : ℕ → GrantedRow
-done r = record { row = r; has_position = true; has_generation = true }
-
-abbrev part_of : ℕ → SetPart → GrantedRow → GrantedRow
-part_of r part g = cond (eqb g.row r) (with_part part g) g
-
-hand_same : (r : ℕ) (p : Place) (n : ℕ) (x : HandRow) → x.row ≡ r → with_number r n (with_place r p x) ≡ record x { place = Some p; generation = n }
-hand_same r p n x e = ap (with_number r n) (ap (λ (b : Bool). cond b (record x { place = Some p }) x) (eq-eqb x.row r e))
-    ∙ ap (λ (b : Bool). cond b (record x { place = Some p; generation = n }) (record x { place = Some p })) (eq-eqb x.row r e)
-
-hand_other : (r : ℕ) (p : Place) (n : ℕ) (x : HandRow) → x.row ≢ r → with_number r n (with_place r p x) ≡ x
-hand_other r p n x ne = ap (with_number r n) (ap (λ (b : Bool). cond b (record x { place = Some p }) x) (ne_eqb x.row r ne)) ∙ ap (λ (b : Bool). cond b (record x { generation = n }) x) (ne_eqb x.row r ne)
-
-granted_same : (r : ℕ) (p : Place) (n : ℕ) → part_of r (Generation n) (part_of r (Position p) (newly_granted r)) ≡ done r
-granted_same r p n = ap (part_of r (Generation n)) (ap (λ (b : Bool). cond b (record { row = r; has_position = true; has_generation = false }) (newly_granted r)) (eq-eqb r r refl))
-    ∙ ap (λ (b : Bool). cond b (done r) (record { row = r; has_position = true; has_generation = false })) (eq-eqb r r refl)
-
-granted_other : (r : ℕ) (p : Place) (n : ℕ) (g : GrantedRow) → g.row ≢ r → part_of r (Generation n) (part_of r (Position p) g) ≡ g
-granted_other r p n g ne = ap (part_of r (Generation n)) (ap (λ (b : Bool). cond b (record g { has_position = true }) g) (ne_eqb g.row r ne)) ∙ ap (λ (b : Bool). cond b (record g { has_generation = true }) g) (ne_eqb g.row r ne)
-
-prepared_stage : (v w : View) (k : Layout) (stand : Option Stand) (rows : List (HeldRow Bool)) (held : List ℕ) (gs gs' : List GrantedRow) (hand hand' : List HandRow) (last : Option Seeds) (r : ℕ) (p : Place) (n : ℕ)
-    → Stage v k stand rows held gs hand last → w ≡ prepared v r p n → granted_after_part r (Generation n) (granted_after_part r (Position p) gs) ≡ gs' → map (with_number r n) (map (with_place r p) hand) ≡ hand' → Stage w k stand rows held gs' hand' last
-prepared_stage v w k stand rows held gs gs' hand hand' last r p n s e granted in_hand = record {
-  layout = ap (λ (u : View). u.layout) e ∙ s.layout;
-  stand_is = ap (λ (u : View). u.core.stand) e ∙ s.stand_is;
-  rows_are = ap (λ (u : View). u.rows) e ∙ s.rows_are;
-  held_are = ap (λ (u : View). u.core.held) e ∙ s.held_are;
-  granted = ap (λ (u : View). u.core.granted) e ∙ (ap (λ (l : List GrantedRow). granted_after_part r (Generation n) (granted_after_part r (Position p) l)) s.granted ∙ granted);
-  unlinked = ap (λ (u : View). u.core.unlinked) e ∙ s.unlinked;
-  hand_is = ap (λ (u : View). u.hand) e ∙ (ap (λ (l : List HandRow). map (with_number r n) (map (with_place r p) l)) s.hand_is ∙ in_hand);
-  last_is = ap (λ (u : View). u.last) e ∙ s.last_is;
-  has_not = ap (λ (u : View). u.core.has_book) e ∙ s.has_not;
-}
-
--- A row of the hand is opened, linked and given back
-
-module _ (v v4 v5 v6 : View) (k : Layout) (stand : Option Stand) (h : HeldRow Bool) (gs : List GrantedRow) (hand : List HandRow) (new : Seeds) (s : Stage v k stand (h ∷ []) (h.row ∷ []) gs hand (Some new))
-    (row index : ℕ) (place : Place) (child generation : ℕ) (x : HandRow) (same_row : h.row ≡ row) (inside : index < 512) (no_link : is_link (get_or h.words index 0) ≡ false) (vacant : Has h.vacant index)
-    (below : place ≡ entry_place (levels_of k) h.place index) (in_hand : Contains hand x) (x_row : x.row ≡ child) (x_place : x.place ≡ Some place) (x_number : x.generation ≡ generation)
-    (other : h.row ≢ child) (small : child < 1024) (few : generation < 2 ^ 30) (out : times h.row (map (λ (g : GrantedRow). g.row) gs) ≡ 0) (listed : lists new place ≡ true)
-    (at : IsSetUp v child) (e4 : v4 ≡ opened v child at.place at.known.generation) (word : ℕ) (is : word ≡ link_word child generation) where
-  abbrev sprout : HeldRow Bool
-  sprout = opened_row child place generation
-
-  known_is : x ≡ at.known
-  known_is = at.only x (subst (λ (l : List HandRow). Contains l x) (sym s.hand_is) in_hand) x_row
-
-  place_is : at.place ≡ place
-  place_is = let e : Some at.place ≡ Some place = sym at.is_set ∙ (ap (λ (y : HandRow). y.place) (sym known_is) ∙ x_place) in cc
-
-  number_is : at.known.generation ≡ generation
-  number_is = ap (λ (y : HandRow). y.generation) (sym known_is) ∙ x_number
-
-  stage4 : Stage v4 k stand (h ∷ sprout ∷ []) (h.row ∷ child ∷ []) gs hand (Some new)
-  stage4 = record {
-    layout = ap (λ (u : View). u.layout) e4 ∙ s.layout;
-    stand_is = ap (λ (u : View). u.core.stand) e4 ∙ s.stand_is;
-    rows_are = ap (λ (u : View). u.rows) e4 ∙ (λ j. s.rows_are j ++ opened_row child (place_is j) (number_is j) ∷ []);
-    held_are = ap (λ (u : View). u.core.held) e4 ∙ ap (λ (l : List ℕ). l ++ child ∷ []) s.held_are;
-    granted = ap (λ (u : View). u.core.granted) e4 ∙ s.granted;
-    unlinked = ap (λ (u : View). u.core.unlinked) e4 ∙ s.unlinked;
-    hand_is = ap (λ (u : View). u.hand) e4 ∙ s.hand_is;
-    last_is = ap (λ (u : View). u.last) e4 ∙ s.last_is;
-    has_not = ap (λ (u : View). u.core.has_book) e4 ∙ s.has_not;
-  }
-
-  word_links : is_link word ≡ true
-  word_links = ap is_link is ∙ is_link-link_word child generation small few
-
-  word_row : link_row word ≡ child
-  word_row = ap link_row is ∙ link_row-link_word child generation small
-
-  holder_there : Contains v4.rows h
-  holder_there = subst (λ (l : List (HeldRow Bool)). Contains l h) (sym stage4.rows_are) (in_head h (sprout ∷ []))
-
-  pub may_link_it : MaySetEntry v4 row index word
-  may_link_it = record {
-    linker = h;
-    held = holder_there;
-    same_row = same_row;
-    linked = subst (λ (r : ℕ). NotInHand v4 r) same_row (let a = ap (λ (l : List GrantedRow). times h.row (map (λ (g : GrantedRow). g.row) l)) stage4.granted in let b = ap (λ us. times h.row (map (λ u. u.row) us)) stage4.unlinked in
-        let n = times-nil h.row in let z = out in omega arith);
-    inside = inside;
-    old = no_link;
-    new = inr (inr (record {
-      link = word_links;
-      child = sprout;
-      is_open = subst (λ (l : List (HeldRow Bool)). Contains l sprout) (sym stage4.rows_are) (in_tail h (sprout ∷ []) sprout (in_head sprout []));
-      child_row = sym word_row;
-      hand_row = x;
-      granted = subst (λ (l : List HandRow). Contains l x) (sym stage4.hand_is) in_hand;
-      same_row = x_row ∙ sym word_row;
-      place = below ∙ ap (λ (y : Layout). entry_place (levels_of y) h.place index) (sym stage4.layout);
-      generation = x_number ∙ sym (ap link_generation is ∙ link_generation-link_word child generation small);
-    }));
-  }
-
-  module _ (sets : Sets row index word v4 v5) where
-    abbrev grown : HeldRow Bool
-    grown = record h { words = set h.words index word; vacant = without index h.vacant }
-
-    abbrev grafted : HeldRow Bool
-    grafted = record sprout { found = None; is_given = true; vacant = all_entries }
-
-    grafted_is : newly_linked h index sprout ≡ grafted
-    grafted_is = ap (λ (b : Bool). record sprout { found = None; is_given = b; vacant = cond b all_entries [] }) (among_true h.vacant index vacant)
-
-    e5 : v5 ≡ link_set v4 h index word
-    e5 = sets h holder_there same_row ∙ ap (λ (b : Bool). cond b (link_set v4 h index word) (word_set v4 h.row index word)) word_links
-
-    abbrev change : HeldRow Bool → HeldRow Bool
-    change y = with_link h index (link_row word) (with_word h.row index word y)
-
-    grown_is : change h ≡ grown
-    grown_is = let z : HeldRow Bool = record h { words = set h.words index word } in ap (with_link h index (link_row word)) (ap (λ (b : Bool). cond b z h) (eq-eqb h.row h.row refl))
-        ∙ (ap (λ (b : Bool). cond b (newly_linked h index z) (cond (eqb h.row h.row) (record z { vacant = without index z.vacant }) z)) (ne_eqb h.row (link_row word) (λ e. other (e ∙ word_row)))
-        ∙ ap (λ (b : Bool). cond b (record z { vacant = without index z.vacant }) z) (eq-eqb h.row h.row refl))
-
-    sprout_is : change sprout ≡ grafted
-    sprout_is = ap (with_link h index (link_row word)) (ap (λ (b : Bool). cond b (record sprout { words = set sprout.words index word }) sprout) (ne_eqb child h.row (λ e. other (sym e))))
-        ∙ (ap (λ (b : Bool). cond b (newly_linked h index sprout) (cond (eqb child h.row) (record sprout { vacant = without index sprout.vacant }) sprout)) (eq-eqb child (link_row word) (sym word_row)) ∙ grafted_is)
-
-    abbrev other_rows : GrantedRow → Bool
-    other_rows g = not (eqb g.row (link_row word))
-
-    stage5 : Stage v5 k stand (grown ∷ grafted ∷ []) (h.row ∷ child ∷ []) (filter other_rows gs) (filter (λ (y : HandRow). not (eqb y.row (link_row word))) hand) (Some new)
-    stage5 = record {
-      layout = ap (λ (u : View). u.layout) e5 ∙ stage4.layout;
-      stand_is = ap (λ (u : View). u.core.stand) e5 ∙ stage4.stand_is;
-      rows_are = ap (λ (u : View). u.rows) e5 ∙ (ap (map change) stage4.rows_are ∙ (λ j. grown_is j ∷ sprout_is j ∷ []));
-      held_are = ap (λ (u : View). u.core.held) e5 ∙ stage4.held_are;
-      granted = ap (λ (u : View). u.core.granted) e5 ∙ (ap (granted_after_entry word) stage4.granted ∙ ap (λ (b : Bool). cond b (filter other_rows gs) gs) word_links);
-      unlinked = ap (λ (u : View). u.core.unlinked) e5 ∙ stage4.unlinked;
-      hand_is = ap (λ (u : View). u.hand) e5 ∙ ap (filter (λ (y : HandRow). not (eqb y.row (link_row word)))) stage4.hand_is;
-      last_is = ap (λ (u : View). u.last) e5 ∙ stage4.last_is;
-      has_not = ap (λ (u : View). u.core.has_book) e5 ∙ stage4.has_not;
-    }
-
-    pub may_return_it : NotInHand v5 child
-    may_return_it = let a = ap (λ (l : List GrantedRow). times child (map (λ (g : GrantedRow). g.row) l)) stage5.granted in let b = ap (λ us. times child (map (λ u. u.row) us)) stage5.unlinked in let n = times-nil child in
-        let gone : times child (map (λ (g : GrantedRow). g.row) (filter other_rows gs)) ≡ 0 = times_dropped (λ (g : GrantedRow). g.row) (λ r. not (eqb r (link_row word))) child gs (ap not (eq-eqb child (link_row word) (sym word_row))) in omega arith
-
-    pub it_fits : Fits sown v5 child true
-    it_fits = record {
-      known = grafted;
-      held = subst (λ (l : List (HeldRow Bool)). Contains l grafted) (sym stage5.rows_are) (in_tail grown (grafted ∷ []) grafted (in_head grafted []));
-      same_row = refl;
-      content_fits = inr (refl, (new, stage5.last_is, sym listed));
-    }
-
-    pub planted : v6 ≡ released v5 child → Stage v6 k stand (grown ∷ []) (h.row ∷ []) (filter other_rows gs) (filter (λ (y : HandRow). not (eqb y.row (link_row word))) hand) (Some new)
-    planted e6 = record {
-      layout = ap (λ (u : View). u.layout) e6 ∙ stage5.layout;
-      stand_is = ap (λ (u : View). u.core.stand) e6 ∙ stage5.stand_is;
-      rows_are = ap (λ (u : View). u.rows) e6 ∙ (ap (filter (λ (y : HeldRow Bool). not (eqb y.row child))) stage5.rows_are
-          ∙ (ap (λ (b : Bool). cond (not b) (grown ∷ filter (λ (y : HeldRow Bool). not (eqb y.row child)) (grafted ∷ [])) (filter (λ (y : HeldRow Bool). not (eqb y.row child)) (grafted ∷ []))) (ne_eqb h.row child other)
-          ∙ ap (λ (b : Bool). grown ∷ cond (not b) (grafted ∷ []) []) (eq-eqb child child refl)));
-      held_are = ap (λ (u : View). u.core.held) e6 ∙ (ap (without child) stage5.held_are
-          ∙ (ap (λ (b : Bool). cond (not b) (h.row ∷ without child (child ∷ [])) (without child (child ∷ []))) (ne_eqb h.row child other)
-          ∙ ap (λ (b : Bool). h.row ∷ cond (not b) (child ∷ []) []) (eq-eqb child child refl)));
-      granted = ap (λ (u : View). u.core.granted) e6 ∙ stage5.granted;
-      unlinked = ap (λ (u : View). u.core.unlinked) e6 ∙ stage5.unlinked;
-      hand_is = ap (λ (u : View). u.hand) e6 ∙ stage5.hand_is;
-      last_is = ap (λ (u : View). u.last) e6 ∙ stage5.last_is;
-      has_not = ap (λ (u : View). u.core.has_book) e6 ∙ stage5.has_not;
-    }
+use Rattle.row_uses.proofs.SownSteps.{Stage, gave_stage, old_is, keeps_after, may_return, taken_are, may_take_all, done, hand_same, hand_other, granted_same, granted_other, prepared_stage, may_link_it, may_return_it, it_fits, planted}
 
 -- Two positions more in the list
 
@@ -327,7 +105,7 @@ module _ (v0 v1 v2 : View) (book new : Seeds) (row : ℕ) (first second : Bed) (
   has_b : 1 ≤ times b.0 (b.0 ∷ a.0 ∷ [])
   has_b = let x = times-cons_same b.0 b.0 (a.0 ∷ []) refl in omega arith
 
-  two_rows : a.0 ≢ b.0
+  pub two_rows : a.0 ≢ b.0
   two_rows e = let x = ap (times b.0) draws.free in let y = times-append b.0 new.free.items (b.0 ∷ a.0 ∷ []) in let z = times-cons_same b.0 b.0 (a.0 ∷ []) refl in let w = times_one_same b.0 a.0 e in let o = free_once b.0 in omega arith
 
   free_small : (r : ℕ) → 1 ≤ times r book.free.items → r < 1024
@@ -341,6 +119,9 @@ module _ (v0 v1 v2 : View) (book new : Seeds) (row : ℕ) (first second : Bed) (
 
   pub small_b : b.0 < 1024
   small_b = free_small b.0 (taken_there b.0 has_b)
+
+  pub not_linked : (one : ℕ) → one ≡ link_word a.0 a.1 → link_row one ≢ b.0
+  not_linked one is e = two_rows (sym (ap link_row is ∙ link_row-link_word a.0 a.1 small_a) ∙ e)
 
   pub few_a : a.1 < 2 ^ 30
   few_a = let x = draws.few in let y = draws.number in let z = draws.number_after in omega arith
@@ -463,12 +244,6 @@ module _ (v0 v1 v2 : View) (book new : Seeds) (row : ℕ) (first second : Bed) (
                   has_not = s.has_not;
                 }
 
-            pub may_open_b : MayOpen v7 b.0
-            may_open_b = record {
-              both_set = ap (find (λ (x : GrantedRow). eqb x.row b.0)) stage7.granted ∙ ap (λ (t : Bool). cond t (Some (done b.0)) None) (eq-eqb b.0 b.0 refl);
-              closed = ap (times b.0) stage7.held_are ∙ times_one_other b.0 h.row other_b;
-            }
-
             none_there : is_link (get_or half.words second.index 0) ≡ false
             none_there = ap is_link (get_or-set_other h.words first.index second.index one 0 (λ e. may.apart (sym e))) ∙ may.no_link
 
@@ -538,5 +313,5 @@ module _ (v0 v1 v2 : View) (book new : Seeds) (row : ℕ) (first second : Bed) (
 -- The give of such a sowing, whether the rows were drawn or not
 pub may_give_both : (k : Layout) (v0 v1 : View) (book new : Seeds) (row : ℕ) (first second : Bed) (rows : ℕ) (drawn : Option ((ℕ × ℕ) × (ℕ × ℕ))) → MaySowBoth v0 row first second → Learns sown rows v0 book → rows ≤ 1024 → v1 ≡ turned sown v0 book
     → MatchOption drawn (SameSeeds book new) (λ r. DrawsBoth book first.place second.place r.0 r.1 new) → MayGive sown k v1 book new
-may_give_both k v0 v1 book new row first second rows None may learns few e1 same = may_return k v1 book new same (ap (λ (v : View). v.core.has_book) e1)
+may_give_both k v0 v1 book new row first second rows None may learns few e1 same = may_return k v1 book new same (ap (λ (v : View). v.core.has_book) e1) (λ q. let o = learns.once q in omega arith)
 may_give_both k v0 v1 book new row first second rows (Some r) may learns few e1 draws = may_give_both_drawn v0 v1 v1 book new row first second r.0 r.1 rows may learns few e1 draws k

@@ -80,7 +80,6 @@ took v0 v1 v2 v3 v4 v5 n m x p idle right e1 e2 is f e3 e4 r e5 z =
         };
         same_row = refl;
         inside = omega arith;
-        long = f.all;
         no_link = ap is_link (sym (r.holds g here refl) ∙ z) ∙ zero_no_link;
         below = bed_below v5.layout ∙ ap (λ (q : Place). entry_place (levels_of v5.layout) q 5) (sym at);
         is_place = bed_is_place v5.layout;
@@ -99,7 +98,6 @@ looked_on v w x m root r e z = subst (λ (u : View). HasBeds u x) (sym e) (recor
       alone = record { rows = root.may.alone.rows; held = root.may.alone.held; granted = root.may.alone.granted; unlinked = root.may.alone.unlinked; has_not = root.may.alone.has_not };
       same_row = root.may.same_row;
       inside = root.may.inside;
-      long = root.may.long;
       no_link = root.may.no_link;
       below = root.may.below;
       is_place = root.may.is_place;

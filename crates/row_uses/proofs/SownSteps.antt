@@ -1,6 +1,6 @@
--- What a pass of the plan with a list of positions may give, and what it has after each call of a sowing.
-use Rattle.std.proofs.Common.{◌≡◌, ◌≢◌, ℕ, ◌<◌, ◌≤◌, ◌⊎◌, eqb, cond, not, Bool, true, false, List, [], ◌∷◌, ◌++◌, map, length, set, inr, sym, refl, ap, ◌∙◌, subst, ⊎_elim, arith, eq-eqb, ne_eqb, append-nil, Option, Some, None, MatchOption}
-use Rattle.std.specs.List.{Contains, filter, AllByRecursion}
+-- What a pass of the plan with a list of positions may give, what each call of a sowing makes of a pass, and what it has after the sowing of a row.
+use Rattle.std.proofs.Common.{◌≡◌, ◌≢◌, ℕ, ◌<◌, ◌≤◌, ◌⊎◌, eqb, cond, not, Bool, true, false, List, [], ◌∷◌, ◌++◌, map, length, set, inr, sym, refl, ap, ◌∙◌, subst, ⊎_elim, arith, eq-eqb, ne_eqb, append-nil, Option, Some, None, MatchOption, ◌+◌, ◌^◌, get_or}
+use Rattle.std.specs.List.{Contains, filter, AllByRecursion, list_any}
 use Rattle.std.proofs.lemmas.Bool.{cases_lt}
 use mathlib.Core.Logic.{dite}
 use native.Mathlib.Decide.{ℕ_discrete}
@@ -12,85 +12,88 @@ use Rattle.walk_core.specs.declared.pass.GrantedRow.{GrantedRow}
 use Rattle.walk_core.specs.declared.pass.Stand.{Stand}
 use Rattle.walk_core.specs.Words.{is_link, link_row, link_generation, link_word}
 use Rattle.walk_core.specs.Lists.{times, Has, without, minus, among}
-use Rattle.walk_core.specs.Events.{newly_granted, granted_after_part, granted_after_entry}
+use Rattle.walk_core.specs.Events.{newly_granted, granted_after_part, granted_after_entry, with_part, unlinked_after_give}
 use Rattle.walk_core.specs.Guards.{put_rows, MayPut}
-use Rattle.walk_core.proofs.RowLists.{times-nil, times-append, times_one_same, times_one_other, times_minus_other, among_true}
+use Rattle.walk_core.proofs.RowLists.{times-nil, times-append, times_one_same, times_one_other, times_minus_other, among_true, times_minus_same, times_dropped, among_false}
 use Rattle.walk_core.proofs.Spellings.{link_row-link_word, link_generation-link_word, is_link-link_word}
 use Rattle.row_layout.specs.declared.places.Layout.{Layout}
 use Rattle.row_table.specs.declared.view.HeldRow.{HeldRow}
 use Rattle.row_table.specs.declared.view.HandRow.{HandRow}
 use Rattle.row_uses.specs.declared.sowing.Seeds.{Seeds}
-use Rattle.row_table.specs.Rule.{levels_of, hand_part, unmoved}
+use Rattle.row_table.specs.Rule.{levels_of, hand_part}
 use Rattle.row_table.specs.Vacant.{all_entries, vacant_entries}
 use Rattle.row_table.specs.Moves.{released, Fits, NotInHand}
-use Rattle.row_table.specs.Books.{given, hand_rows, swept_rows, taken_rows, put_list, book_core, turned, waited, Learns, Gives, MayGive}
+use Rattle.row_table.specs.Books.{given, hand_rows, swept_rows, taken_rows, put_list, book_core, turned, waited, Learns, Gives, MayGive, region}
 use Rattle.row_table.specs.Openings.{with_place, with_number, opened_row, prepared, opened, MaySetUp, IsSetUp}
 use Rattle.row_table.specs.Links.{with_word, newly_linked, with_link, link_set, word_set, MaySetEntry, Sets}
-use Rattle.row_uses.specs.Stock.{Stock}
-use Rattle.row_uses.specs.Sown.{sown, lists, View, HoldsAlone, MaySow, SameSeeds, Draws, KeepsRow, IsSown}
+use Rattle.row_uses.specs.Sown.{sown, lists, View, HoldsAlone, MaySow, SameSeeds, Draws, KeepsRow, IsSown, same_place, KeepsListed}
 use Rattle.row_table.proofs.Views.{in_head, in_tail}
 use Rattle.row_table.proofs.Turns.{has_contained}
 use Rattle.row_table.proofs.Beside.{has_part}
 use Rattle.row_table.proofs.Vacant.{is_vacant}
-use Rattle.row_uses.proofs.Stock.{filter_none, minus_none, limbo_same, empty_journal, taken_is, may_take}
+use Rattle.row_uses.proofs.Stock.{filter_none, minus_none, limbo_same, empty_journal, filter_all, minus_has}
 use Rattle.row_uses.proofs.SownPlaces.{few_levels, Splits, splits, only_row, touched, lists_other, lists_it, keeps_listed}
+use Rattle.std.proofs.lemmas.List.Elements.{filter-append}
+use Rattle.walk_core.specs.declared.event.SetPart.{SetPart}
+use Rattle.row_table.specs.Plan.{IsUntouched}
+
+-- A give that takes these rows of the end of the free ones
+
+module _ (k : Layout) (v : View) (old new : Seeds) (ts : List ℕ) (has : v.core.has_book ≡ true) (limbo : new.limbo.items ≡ old.limbo.items) (front : old.free.items ≡ new.free.items ++ ts)
+    (once : (q : ℕ) → times q old.free.items ≤ 1) where
+  nothing_swept : swept_rows sown old new ≡ []
+  nothing_swept = minus_none (put_rows new.limbo.items) (put_rows old.limbo.items) (λ x i. has_contained (put_rows new.limbo.items) x (subst (λ (l : List PutRow). Contains (put_rows l) x) (sym limbo) i))
+
+  nothing_put : put_list sown old new ≡ []
+  nothing_put = filter_none (λ y. not (among (put_rows old.limbo.items) y.row)) new.limbo.items
+      (λ y i. ap not (among_true (put_rows old.limbo.items) y.row (has_part (λ (z : PutRow). z.row) old.limbo.items y (subst (λ (l : List PutRow). Contains l y) limbo i))))
+
+  split_count : (q : ℕ) → times q new.free.items + times q ts ≤ 1
+  split_count q = let o = once q in let a = ap (times q) front in let b = times-append q new.free.items ts in omega arith
+
+  pub taken_are : taken_rows sown old new ≡ ts
+  taken_are = (λ j. minus new.free.items (front j ++ nothing_swept j)) ∙ (ap (minus new.free.items) (append-nil (new.free.items ++ ts))
+      ∙ (filter-append (λ x. not (among new.free.items x)) new.free.items ts
+      ∙ (λ j. minus_none new.free.items new.free.items (λ x i. has_contained new.free.items x i) j
+      ++ filter_all (λ x. not (among new.free.items x)) ts (λ x i. ap not (among_false new.free.items x (let h = has_contained ts x i in let c = split_count x in omega arith))) j)))
+
+  pub may_take_all : old.next ≤ new.next → KeepsListed (region v) old new → MayGive sown k v old new
+  may_take_all more keeps = record {
+    follows = (more, keeps);
+    names = λ e is. empty_journal e is;
+    guard = record {
+      has_book = has;
+      put_once = λ q. let z = ap (λ l. times q (put_rows l)) nothing_put ∙ times-nil q in omega arith;
+      swept_once = λ q. let z = ap (times q) nothing_swept ∙ times-nil q in omega arith;
+      taken_once = λ q. let z = ap (times q) taken_are in let c = split_count q in omega arith;
+      apart = λ q i. ap (times q) nothing_swept ∙ times-nil q;
+      put_marked = λ q i. let z = ap (λ l. times q (put_rows l)) nothing_put ∙ times-nil q in absurd (omega arith);
+      put_sampled = subst (AllByRecursion (MayPut (book_core sown k old) v.core)) (sym nothing_put) tt;
+      swept_unread = nothing_swept;
+      taken_free = λ q i. minus_has new.free.items (old.free.items ++ swept_rows sown old new) q i;
+    };
+    free = λ q. ap (times q) (λ j. minus (taken_are j) (front j ++ nothing_swept j)) ∙ (let all = times-append q (new.free.items ++ ts) [] in let some_list = times-append q new.free.items ts in let n = times-nil q in let c = split_count q in
+        dite (ℕ_discrete (times q ts) 0)
+        (λ z. let same = times_minus_other ts ((new.free.items ++ ts) ++ []) q z in omega arith)
+        (λ nz. let zero = times_minus_same ts ((new.free.items ++ ts) ++ []) q (omega arith) in omega arith));
+    limbo = limbo ∙ (sym (append-nil old.limbo.items) ∙ (λ j. sym (limbo_same (swept_rows sown old new) old.limbo.items nothing_swept) j ++ sym nothing_put j));
+  }
 
 -- A book that is as it was
 
 module _ (k : Layout) (v : View) (old new : Seeds) (same : SameSeeds old new) where
-  no_swept : swept_rows sown old new ≡ []
-  no_swept = minus_none (put_rows new.limbo.items) (put_rows old.limbo.items) (λ x i. has_contained (put_rows new.limbo.items) x (subst (λ (l : List PutRow). Contains (put_rows l) x) (sym same.limbo) i))
-
-  no_put : put_list sown old new ≡ []
-  no_put = filter_none (λ y. not (among (put_rows old.limbo.items) y.row)) new.limbo.items
-      (λ y i. ap not (among_true (put_rows old.limbo.items) y.row (has_part (λ (z : PutRow). z.row) old.limbo.items y (subst (λ (l : List PutRow). Contains l y) same.limbo i))))
-
-  pub no_taken : taken_rows sown old new ≡ []
-  no_taken = minus_none new.free.items (old.free.items ++ swept_rows sown old new)
-      (λ x i. has_contained new.free.items x (subst (λ (l : List ℕ). Contains l x) ((λ j. old.free.items ++ no_swept j) ∙ (append-nil old.free.items ∙ sym same.free)) i))
-
   pub lists_same : (p : Place) → lists new p ≡ lists old p
-  lists_same p = ap (Rattle.std.specs.List.list_any (Rattle.row_uses.specs.Sown.same_place p)) same.listed
+  lists_same p = ap (list_any (same_place p)) same.listed
 
-  pub may_return : v.core.has_book ≡ true → MayGive sown k v old new
-  may_return has = record {
-    follows = (let e = same.next in omega arith, λ p _. lists_same p);
-    names = λ e is. empty_journal e is;
-    guard = record {
-      has_book = has;
-      put_once = λ q. let z = ap (λ l. times q (put_rows l)) no_put ∙ times-nil q in omega arith;
-      swept_once = λ q. let z = ap (times q) no_swept ∙ times-nil q in omega arith;
-      taken_once = λ q. let z = ap (times q) no_taken ∙ times-nil q in omega arith;
-      apart = λ q i. ap (times q) no_swept ∙ times-nil q;
-      put_marked = λ q i. let z = ap (λ l. times q (put_rows l)) no_put ∙ times-nil q in absurd (omega arith);
-      put_sampled = subst (AllByRecursion (MayPut (book_core sown k old) v.core)) (sym no_put) tt;
-      swept_unread = no_swept;
-      taken_free = λ q i. let z = ap (times q) no_taken ∙ times-nil q in absurd (omega arith);
-    };
-    free = λ q. ap (times q) (λ j. minus (no_taken j) (old.free.items ++ no_swept j)) ∙ (times_minus_other [] (old.free.items ++ []) q (times-nil q) ∙ ap (times q) (append-nil old.free.items ∙ sym same.free));
-    limbo = same.limbo ∙ (sym (append-nil old.limbo.items) ∙ (λ j. sym (limbo_same (swept_rows sown old new) old.limbo.items no_swept) j ++ sym no_put j));
-  }
+  module _ (has : v.core.has_book ≡ true) (once : (q : ℕ) → times q old.free.items ≤ 1) where
+    all_left : old.free.items ≡ new.free.items ++ []
+    all_left = sym same.free ∙ sym (append-nil new.free.items)
 
--- A book from which a row was drawn: the plan of the tests shows what is taken of its lists
+    pub no_taken : taken_rows sown old new ≡ []
+    no_taken = taken_are k v old new [] has same.limbo all_left once
 
-abbrev as_stock : Seeds → Stock
-as_stock b = (b.free, b.limbo, b.next)
-
-abbrev stock_view : View → Rattle.row_uses.specs.Stock.View
-stock_view v = record (unmoved v.layout None v.number) { core = v.core }
-
-module _ (k : Layout) (v : View) (old new : Seeds) (place : Place) (child generation : ℕ) (draws : Draws old place child generation new) (has : v.core.has_book ≡ true) (once : (q : ℕ) → times q old.free.items ≤ 1) where
-  taken_child : taken_rows sown old new ≡ child ∷ []
-  taken_child = let n = draws.next in taken_is k (stock_view v) (as_stock old) (as_stock new) child has (omega arith) draws.free draws.limbo once
-
-  pub may_draw : (Rattle.row_table.specs.Plan.IsUntouched (Rattle.row_table.specs.Books.region v) place → ⊥) → MayGive sown k v old new
-  may_draw out = let n = draws.next in let t = may_take k (stock_view v) (as_stock old) (as_stock new) child has (omega arith) draws.free draws.limbo once in record {
-    follows = (omega arith, keeps_listed old new place draws.listed v out);
-    names = λ e is. empty_journal e is;
-    guard = t.guard;
-    free = t.free;
-    limbo = t.limbo;
-  }
+    pub may_return : MayGive sown k v old new
+    may_return = may_take_all k v old new [] has same.limbo all_left once (let e = same.next in omega arith) (λ p _. lists_same p)
 
 -- What a pass has between the calls
 
@@ -118,7 +121,7 @@ gave_stage v0 v1 v2 book new h ts rows alone learns e1 g taken = record {
   rows_are = ap (λ (v : View). v.rows) g.after ∙ ap (map given) (ap (λ (v : View). v.rows) e1 ∙ alone.rows);
   held_are = ap (λ (v : View). v.core.held) g.after ∙ (ap (λ (v : View). v.core.held) e1 ∙ alone.held);
   granted = ap (λ (v : View). v.core.granted) g.after ∙ (λ j. (ap (λ (v : View). v.core.granted) e1 ∙ alone.granted) j ++ map newly_granted (taken j));
-  unlinked = ap (λ (v : View). v.core.unlinked) g.after ∙ ap (Rattle.walk_core.specs.Events.unlinked_after_give (put_list sown g.old new)) (ap (λ (v : View). v.core.unlinked) e1 ∙ alone.unlinked);
+  unlinked = ap (λ (v : View). v.core.unlinked) g.after ∙ ap (unlinked_after_give (put_list sown g.old new)) (ap (λ (v : View). v.core.unlinked) e1 ∙ alone.unlinked);
   hand_is = ap (λ (v : View). v.hand) g.after ∙ (λ j. (ap (λ (v : View). v.hand) e1 ∙ empty_map hand_part v0.hand (learns.right.hand ∙ ap (map (λ (x : GrantedRow). x.row)) alone.granted)) j ++ hand_rows sown g.grants.generation g.old new (taken j));
   last_is = ap (λ (v : View). v.last) g.after;
   has_not = ap (λ (v : View). v.core.has_book) g.after;
@@ -186,8 +189,177 @@ keeps_after v0 w h y book new rows alone learns s row place is_given listed = re
 
 pub kept_undrawn : (k : Layout) (v0 v1 v2 : View) (book new : Seeds) (h : HeldRow Bool) (rows : ℕ) → HoldsAlone v0 h → Learns sown rows v0 book → v1 ≡ turned sown v0 book → Gives sown v1 new v2 → SameSeeds book new → KeepsRow v0 h h.words v2
 kept_undrawn k v0 v1 v2 book new h rows alone learns e1 g same =
-    let taken : taken_rows sown g.old new ≡ [] = ap (λ (b : Seeds). taken_rows sown b new) (old_is v0 v1 v2 book new e1 g) ∙ no_taken k v1 book new same in
+    let taken : taken_rows sown g.old new ≡ [] = ap (λ (b : Seeds). taken_rows sown b new) (old_is v0 v1 v2 book new e1 g) ∙ no_taken k v1 book new same (ap (λ (v : View). v.core.has_book) e1) (λ q. let o = learns.once q in omega arith) in
     keeps_after v0 v2 h (given h) book new rows alone learns (gave_stage v0 v1 v2 book new h [] rows alone learns e1 g taken) refl refl refl (lists_same k v1 book new same h.place)
+
+-- Rows of the hand that are set up
+
+abbrev pub done : ℕ → GrantedRow
+done r = record { row = r; has_position = true; has_generation = true }
+
+abbrev part_of : ℕ → SetPart → GrantedRow → GrantedRow
+part_of r part g = cond (eqb g.row r) (with_part part g) g
+
+pub hand_same : (r : ℕ) (p : Place) (n : ℕ) (x : HandRow) → x.row ≡ r → with_number r n (with_place r p x) ≡ record x { place = Some p; generation = n }
+hand_same r p n x e = ap (with_number r n) (ap (λ (b : Bool). cond b (record x { place = Some p }) x) (eq-eqb x.row r e))
+    ∙ ap (λ (b : Bool). cond b (record x { place = Some p; generation = n }) (record x { place = Some p })) (eq-eqb x.row r e)
+
+pub hand_other : (r : ℕ) (p : Place) (n : ℕ) (x : HandRow) → x.row ≢ r → with_number r n (with_place r p x) ≡ x
+hand_other r p n x ne = ap (with_number r n) (ap (λ (b : Bool). cond b (record x { place = Some p }) x) (ne_eqb x.row r ne)) ∙ ap (λ (b : Bool). cond b (record x { generation = n }) x) (ne_eqb x.row r ne)
+
+pub granted_same : (r : ℕ) (p : Place) (n : ℕ) → part_of r (Generation n) (part_of r (Position p) (newly_granted r)) ≡ done r
+granted_same r p n = ap (part_of r (Generation n)) (ap (λ (b : Bool). cond b (record { row = r; has_position = true; has_generation = false }) (newly_granted r)) (eq-eqb r r refl))
+    ∙ ap (λ (b : Bool). cond b (done r) (record { row = r; has_position = true; has_generation = false })) (eq-eqb r r refl)
+
+pub granted_other : (r : ℕ) (p : Place) (n : ℕ) (g : GrantedRow) → g.row ≢ r → part_of r (Generation n) (part_of r (Position p) g) ≡ g
+granted_other r p n g ne = ap (part_of r (Generation n)) (ap (λ (b : Bool). cond b (record g { has_position = true }) g) (ne_eqb g.row r ne)) ∙ ap (λ (b : Bool). cond b (record g { has_generation = true }) g) (ne_eqb g.row r ne)
+
+pub prepared_stage : (v w : View) (k : Layout) (stand : Option Stand) (rows : List (HeldRow Bool)) (held : List ℕ) (gs gs' : List GrantedRow) (hand hand' : List HandRow) (last : Option Seeds) (r : ℕ) (p : Place) (n : ℕ)
+    → Stage v k stand rows held gs hand last → w ≡ prepared v r p n → granted_after_part r (Generation n) (granted_after_part r (Position p) gs) ≡ gs' → map (with_number r n) (map (with_place r p) hand) ≡ hand' → Stage w k stand rows held gs' hand' last
+prepared_stage v w k stand rows held gs gs' hand hand' last r p n s e granted in_hand = record {
+  layout = ap (λ (u : View). u.layout) e ∙ s.layout;
+  stand_is = ap (λ (u : View). u.core.stand) e ∙ s.stand_is;
+  rows_are = ap (λ (u : View). u.rows) e ∙ s.rows_are;
+  held_are = ap (λ (u : View). u.core.held) e ∙ s.held_are;
+  granted = ap (λ (u : View). u.core.granted) e ∙ (ap (λ (l : List GrantedRow). granted_after_part r (Generation n) (granted_after_part r (Position p) l)) s.granted ∙ granted);
+  unlinked = ap (λ (u : View). u.core.unlinked) e ∙ s.unlinked;
+  hand_is = ap (λ (u : View). u.hand) e ∙ (ap (λ (l : List HandRow). map (with_number r n) (map (with_place r p) l)) s.hand_is ∙ in_hand);
+  last_is = ap (λ (u : View). u.last) e ∙ s.last_is;
+  has_not = ap (λ (u : View). u.core.has_book) e ∙ s.has_not;
+}
+
+-- A row of the hand is opened, linked and given back
+
+module _ (v v4 v5 v6 : View) (k : Layout) (stand : Option Stand) (h : HeldRow Bool) (gs : List GrantedRow) (hand : List HandRow) (new : Seeds) (s : Stage v k stand (h ∷ []) (h.row ∷ []) gs hand (Some new))
+    (row index : ℕ) (place : Place) (child generation : ℕ) (x : HandRow) (same_row : h.row ≡ row) (inside : index < 512) (no_link : is_link (get_or h.words index 0) ≡ false) (vacant : Has h.vacant index)
+    (below : place ≡ entry_place (levels_of k) h.place index) (in_hand : Contains hand x) (x_row : x.row ≡ child) (x_place : x.place ≡ Some place) (x_number : x.generation ≡ generation)
+    (other : h.row ≢ child) (small : child < 1024) (few : generation < 2 ^ 30) (out : times h.row (map (λ (g : GrantedRow). g.row) gs) ≡ 0) (listed : lists new place ≡ true)
+    (at : IsSetUp v child) (e4 : v4 ≡ opened v child at.place at.known.generation) (word : ℕ) (is : word ≡ link_word child generation) where
+  abbrev sprout : HeldRow Bool
+  sprout = opened_row child place generation
+
+  known_is : x ≡ at.known
+  known_is = at.only x (subst (λ (l : List HandRow). Contains l x) (sym s.hand_is) in_hand) x_row
+
+  place_is : at.place ≡ place
+  place_is = let e : Some at.place ≡ Some place = sym at.is_set ∙ (ap (λ (y : HandRow). y.place) (sym known_is) ∙ x_place) in cc
+
+  number_is : at.known.generation ≡ generation
+  number_is = ap (λ (y : HandRow). y.generation) (sym known_is) ∙ x_number
+
+  stage4 : Stage v4 k stand (h ∷ sprout ∷ []) (h.row ∷ child ∷ []) gs hand (Some new)
+  stage4 = record {
+    layout = ap (λ (u : View). u.layout) e4 ∙ s.layout;
+    stand_is = ap (λ (u : View). u.core.stand) e4 ∙ s.stand_is;
+    rows_are = ap (λ (u : View). u.rows) e4 ∙ (λ j. s.rows_are j ++ opened_row child (place_is j) (number_is j) ∷ []);
+    held_are = ap (λ (u : View). u.core.held) e4 ∙ ap (λ (l : List ℕ). l ++ child ∷ []) s.held_are;
+    granted = ap (λ (u : View). u.core.granted) e4 ∙ s.granted;
+    unlinked = ap (λ (u : View). u.core.unlinked) e4 ∙ s.unlinked;
+    hand_is = ap (λ (u : View). u.hand) e4 ∙ s.hand_is;
+    last_is = ap (λ (u : View). u.last) e4 ∙ s.last_is;
+    has_not = ap (λ (u : View). u.core.has_book) e4 ∙ s.has_not;
+  }
+
+  word_links : is_link word ≡ true
+  word_links = ap is_link is ∙ is_link-link_word child generation small few
+
+  word_row : link_row word ≡ child
+  word_row = ap link_row is ∙ link_row-link_word child generation small
+
+  holder_there : Contains v4.rows h
+  holder_there = subst (λ (l : List (HeldRow Bool)). Contains l h) (sym stage4.rows_are) (in_head h (sprout ∷ []))
+
+  pub may_link_it : MaySetEntry v4 row index word
+  may_link_it = record {
+    linker = h;
+    held = holder_there;
+    same_row = same_row;
+    linked = subst (λ (r : ℕ). NotInHand v4 r) same_row (let a = ap (λ (l : List GrantedRow). times h.row (map (λ (g : GrantedRow). g.row) l)) stage4.granted in let b = ap (λ us. times h.row (map (λ u. u.row) us)) stage4.unlinked in
+        let n = times-nil h.row in let z = out in omega arith);
+    inside = inside;
+    old = no_link;
+    new = inr (inr (record {
+      link = word_links;
+      child = sprout;
+      is_open = subst (λ (l : List (HeldRow Bool)). Contains l sprout) (sym stage4.rows_are) (in_tail h (sprout ∷ []) sprout (in_head sprout []));
+      child_row = sym word_row;
+      hand_row = x;
+      granted = subst (λ (l : List HandRow). Contains l x) (sym stage4.hand_is) in_hand;
+      same_row = x_row ∙ sym word_row;
+      place = below ∙ ap (λ (y : Layout). entry_place (levels_of y) h.place index) (sym stage4.layout);
+      generation = x_number ∙ sym (ap link_generation is ∙ link_generation-link_word child generation small);
+    }));
+  }
+
+  module _ (sets : Sets row index word v4 v5) where
+    abbrev grown : HeldRow Bool
+    grown = record h { words = set h.words index word; vacant = without index h.vacant }
+
+    abbrev grafted : HeldRow Bool
+    grafted = record sprout { found = None; is_given = true; vacant = all_entries }
+
+    grafted_is : newly_linked h index sprout ≡ grafted
+    grafted_is = ap (λ (b : Bool). record sprout { found = None; is_given = b; vacant = cond b all_entries [] }) (among_true h.vacant index vacant)
+
+    e5 : v5 ≡ link_set v4 h index word
+    e5 = sets h holder_there same_row ∙ ap (λ (b : Bool). cond b (link_set v4 h index word) (word_set v4 h.row index word)) word_links
+
+    abbrev change : HeldRow Bool → HeldRow Bool
+    change y = with_link h index (link_row word) (with_word h.row index word y)
+
+    grown_is : change h ≡ grown
+    grown_is = let z : HeldRow Bool = record h { words = set h.words index word } in ap (with_link h index (link_row word)) (ap (λ (b : Bool). cond b z h) (eq-eqb h.row h.row refl))
+        ∙ (ap (λ (b : Bool). cond b (newly_linked h index z) (cond (eqb h.row h.row) (record z { vacant = without index z.vacant }) z)) (ne_eqb h.row (link_row word) (λ e. other (e ∙ word_row)))
+        ∙ ap (λ (b : Bool). cond b (record z { vacant = without index z.vacant }) z) (eq-eqb h.row h.row refl))
+
+    sprout_is : change sprout ≡ grafted
+    sprout_is = ap (with_link h index (link_row word)) (ap (λ (b : Bool). cond b (record sprout { words = set sprout.words index word }) sprout) (ne_eqb child h.row (λ e. other (sym e))))
+        ∙ (ap (λ (b : Bool). cond b (newly_linked h index sprout) (cond (eqb child h.row) (record sprout { vacant = without index sprout.vacant }) sprout)) (eq-eqb child (link_row word) (sym word_row)) ∙ grafted_is)
+
+    abbrev other_rows : GrantedRow → Bool
+    other_rows g = not (eqb g.row (link_row word))
+
+    stage5 : Stage v5 k stand (grown ∷ grafted ∷ []) (h.row ∷ child ∷ []) (filter other_rows gs) (filter (λ (y : HandRow). not (eqb y.row (link_row word))) hand) (Some new)
+    stage5 = record {
+      layout = ap (λ (u : View). u.layout) e5 ∙ stage4.layout;
+      stand_is = ap (λ (u : View). u.core.stand) e5 ∙ stage4.stand_is;
+      rows_are = ap (λ (u : View). u.rows) e5 ∙ (ap (map change) stage4.rows_are ∙ (λ j. grown_is j ∷ sprout_is j ∷ []));
+      held_are = ap (λ (u : View). u.core.held) e5 ∙ stage4.held_are;
+      granted = ap (λ (u : View). u.core.granted) e5 ∙ (ap (granted_after_entry word) stage4.granted ∙ ap (λ (b : Bool). cond b (filter other_rows gs) gs) word_links);
+      unlinked = ap (λ (u : View). u.core.unlinked) e5 ∙ stage4.unlinked;
+      hand_is = ap (λ (u : View). u.hand) e5 ∙ ap (filter (λ (y : HandRow). not (eqb y.row (link_row word)))) stage4.hand_is;
+      last_is = ap (λ (u : View). u.last) e5 ∙ stage4.last_is;
+      has_not = ap (λ (u : View). u.core.has_book) e5 ∙ stage4.has_not;
+    }
+
+    pub may_return_it : NotInHand v5 child
+    may_return_it = let a = ap (λ (l : List GrantedRow). times child (map (λ (g : GrantedRow). g.row) l)) stage5.granted in let b = ap (λ us. times child (map (λ u. u.row) us)) stage5.unlinked in let n = times-nil child in
+        let gone : times child (map (λ (g : GrantedRow). g.row) (filter other_rows gs)) ≡ 0 = times_dropped (λ (g : GrantedRow). g.row) (λ r. not (eqb r (link_row word))) child gs (ap not (eq-eqb child (link_row word) (sym word_row))) in omega arith
+
+    pub it_fits : Fits sown v5 child true
+    it_fits = record {
+      known = grafted;
+      held = subst (λ (l : List (HeldRow Bool)). Contains l grafted) (sym stage5.rows_are) (in_tail grown (grafted ∷ []) grafted (in_head grafted []));
+      same_row = refl;
+      content_fits = inr (refl, (new, stage5.last_is, sym listed));
+    }
+
+    pub planted : v6 ≡ released v5 child → Stage v6 k stand (grown ∷ []) (h.row ∷ []) (filter other_rows gs) (filter (λ (y : HandRow). not (eqb y.row (link_row word))) hand) (Some new)
+    planted e6 = record {
+      layout = ap (λ (u : View). u.layout) e6 ∙ stage5.layout;
+      stand_is = ap (λ (u : View). u.core.stand) e6 ∙ stage5.stand_is;
+      rows_are = ap (λ (u : View). u.rows) e6 ∙ (ap (filter (λ (y : HeldRow Bool). not (eqb y.row child))) stage5.rows_are
+          ∙ (ap (λ (b : Bool). cond (not b) (grown ∷ filter (λ (y : HeldRow Bool). not (eqb y.row child)) (grafted ∷ [])) (filter (λ (y : HeldRow Bool). not (eqb y.row child)) (grafted ∷ []))) (ne_eqb h.row child other)
+          ∙ ap (λ (b : Bool). grown ∷ cond (not b) (grafted ∷ []) []) (eq-eqb child child refl)));
+      held_are = ap (λ (u : View). u.core.held) e6 ∙ (ap (without child) stage5.held_are
+          ∙ (ap (λ (b : Bool). cond (not b) (h.row ∷ without child (child ∷ [])) (without child (child ∷ []))) (ne_eqb h.row child other)
+          ∙ ap (λ (b : Bool). h.row ∷ cond (not b) (child ∷ []) []) (eq-eqb child child refl)));
+      granted = ap (λ (u : View). u.core.granted) e6 ∙ stage5.granted;
+      unlinked = ap (λ (u : View). u.core.unlinked) e6 ∙ stage5.unlinked;
+      hand_is = ap (λ (u : View). u.hand) e6 ∙ stage5.hand_is;
+      last_is = ap (λ (u : View). u.last) e6 ∙ stage5.last_is;
+      has_not = ap (λ (u : View). u.core.has_book) e6 ∙ stage5.has_not;
+    }
 
 -- A row was drawn
 
@@ -206,9 +378,9 @@ module _ (v0 v1 v2 : View) (book new : Seeds) (row index : ℕ) (place : Place) 
   had = ap (λ (v : View). v.core.has_book) e1
 
   pub may_give_drawn : (k : Layout) → MayGive sown k v1 book new
-  may_give_drawn k = may_draw k v1 book new place child generation draws had free_once
-      (subst (λ (p : Place). Rattle.row_table.specs.Plan.IsUntouched (Rattle.row_table.specs.Books.region v1) p → ⊥) (ap (λ (y : Layout). entry_place (levels_of y) h.place index) (ap (λ (v : View). v.layout) e1) ∙ sym may.below)
-      (touched v1 h index (ap (λ (v : View). v.rows) e1 ∙ may.alone.rows) out may.inside may.no_link (subst (λ (y : Layout). Splits (levels_of y) h.place) (sym (ap (λ (v : View). v.layout) e1)) tables)))
+  may_give_drawn k = may_take_all k v1 book new (child ∷ []) had draws.limbo draws.free free_once (let n = draws.next in omega arith) (keeps_listed book new place draws.listed v1
+      (subst (λ (p : Place). IsUntouched (region v1) p → ⊥) (ap (λ (y : Layout). entry_place (levels_of y) h.place index) (ap (λ (v : View). v.layout) e1) ∙ sym may.below)
+      (touched v1 h index (ap (λ (v : View). v.rows) e1 ∙ may.alone.rows) out may.inside may.no_link (subst (λ (y : Layout). Splits (levels_of y) h.place) (sym (ap (λ (v : View). v.layout) e1)) tables))))
     where
       out : NotInHand v1 h.row
       out = let a = ap (λ gs. times h.row (map (λ (g : GrantedRow). g.row) gs)) (ap (λ (v : View). v.core.granted) e1 ∙ may.alone.granted) in
@@ -236,7 +408,7 @@ module _ (v0 v1 v2 : View) (book new : Seeds) (row index : ℕ) (place : Place) 
     was = old_is v0 v1 v2 book new e1 g
 
     taken_one : taken_rows sown g.old new ≡ child ∷ []
-    taken_one = ap (λ (b : Seeds). taken_rows sown b new) was ∙ taken_child v1.layout v1 book new place child generation draws had free_once
+    taken_one = ap (λ (b : Seeds). taken_rows sown b new) was ∙ taken_are v1.layout v1 book new (child ∷ []) had draws.limbo draws.free free_once
 
     stage2 : Stage v2 v0.layout v0.core.stand (given h ∷ []) (h.row ∷ []) (newly_granted child ∷ []) (first_hand ∷ []) (Some new)
     stage2 = gave_stage v0 v1 v2 book new h (child ∷ []) rows may.alone learns e1 g taken_one
@@ -258,168 +430,64 @@ module _ (v0 v1 v2 : View) (book new : Seeds) (row index : ℕ) (place : Place) 
       abbrev second_hand : HandRow
       second_hand = record first_hand { place = Some place; generation = generation }
 
-      set_both : granted_after_part child (Generation generation) (granted_after_part child (Position place) (newly_granted child ∷ [])) ≡ record { row = child; has_position = true; has_generation = true } ∷ []
-      set_both = ap (granted_after_part child (Generation generation)) (ap (λ (b : Bool). cond b (record { row = child; has_position = true; has_generation = false }) (newly_granted child) ∷ []) (eq-eqb child child refl))
-          ∙ ap (λ (b : Bool). cond b (record { row = child; has_position = true; has_generation = true }) (record { row = child; has_position = true; has_generation = false }) ∷ []) (eq-eqb child child refl)
+      stage3 : Stage v3 v0.layout v0.core.stand (given h ∷ []) (h.row ∷ []) (done child ∷ []) (second_hand ∷ []) (Some new)
+      stage3 = prepared_stage v2 v3 v0.layout v0.core.stand (given h ∷ []) (h.row ∷ []) (newly_granted child ∷ []) (done child ∷ []) (first_hand ∷ []) (second_hand ∷ []) (Some new) child place generation stage2 e3
+          (λ j. granted_same child place generation j ∷ []) (λ j. hand_same child place generation first_hand refl j ∷ [])
 
-      hand_both : map (with_number child generation) (map (with_place child place) (first_hand ∷ [])) ≡ second_hand ∷ []
-      hand_both = ap (λ (x : HandRow). with_number child generation x ∷ []) (ap (λ (b : Bool). cond b (record first_hand { place = Some place }) first_hand) (eq-eqb child child refl))
-          ∙ ap (λ (b : Bool). cond b second_hand (record first_hand { place = Some place }) ∷ []) (eq-eqb child child refl)
+      module _ (at : IsSetUp v3 child) (e4 : v4 ≡ opened v3 child at.place at.known.generation) (v5 v6 : View) (word : ℕ) (is : word ≡ link_word child generation) where
+        pub may_link : MaySetEntry v4 row index word
+        may_link = may_link_it v3 v4 v5 v6 v0.layout v0.core.stand (given h) (done child ∷ []) (second_hand ∷ []) new stage3 row index place child generation second_hand may.same_row may.inside may.no_link (is_vacant h.words index may.inside may.no_link)
+            may.below (in_head second_hand []) refl refl refl other small draws.few (times_one_other h.row child (λ e. other (sym e))) (lists_it book new place draws.listed) at e4 word is
 
-      stage3 : Stage v3 v0.layout v0.core.stand (given h ∷ []) (h.row ∷ []) (record { row = child; has_position = true; has_generation = true } ∷ []) (second_hand ∷ []) (Some new)
-      stage3 = record {
-        layout = ap (λ (v : View). v.layout) e3 ∙ stage2.layout;
-        stand_is = ap (λ (v : View). v.core.stand) e3 ∙ stage2.stand_is;
-        rows_are = ap (λ (v : View). v.rows) e3 ∙ stage2.rows_are;
-        held_are = ap (λ (v : View). v.core.held) e3 ∙ stage2.held_are;
-        granted = ap (λ (v : View). v.core.granted) e3 ∙ (ap (λ (gs : List GrantedRow). granted_after_part child (Generation generation) (granted_after_part child (Position place) gs)) stage2.granted ∙ set_both);
-        unlinked = ap (λ (v : View). v.core.unlinked) e3 ∙ stage2.unlinked;
-        hand_is = ap (λ (v : View). v.hand) e3 ∙ (ap (λ (l : List HandRow). map (with_number child generation) (map (with_place child place) l)) stage2.hand_is ∙ hand_both);
-        last_is = ap (λ (v : View). v.last) e3 ∙ stage2.last_is;
-        has_not = ap (λ (v : View). v.core.has_book) e3 ∙ stage2.has_not;
-      }
+        module _ (sets : Sets row index word v4 v5) where
+          pub may_release_linked : NotInHand v5 child
+          may_release_linked = may_return_it v3 v4 v5 v6 v0.layout v0.core.stand (given h) (done child ∷ []) (second_hand ∷ []) new stage3 row index place child generation second_hand may.same_row may.inside may.no_link (is_vacant h.words index may.inside may.no_link)
+              may.below (in_head second_hand []) refl refl refl other small draws.few (times_one_other h.row child (λ e. other (sym e))) (lists_it book new place draws.listed) at e4 word is sets
 
-      module _ (at : IsSetUp v3 child) (e4 : v4 ≡ opened v3 child at.place at.known.generation) where
-        abbrev sprout : HeldRow Bool
-        sprout = opened_row child place generation
+          pub child_fits : Fits sown v5 child true
+          child_fits = it_fits v3 v4 v5 v6 v0.layout v0.core.stand (given h) (done child ∷ []) (second_hand ∷ []) new stage3 row index place child generation second_hand may.same_row may.inside may.no_link (is_vacant h.words index may.inside may.no_link)
+              may.below (in_head second_hand []) refl refl refl other small draws.few (times_one_other h.row child (λ e. other (sym e))) (lists_it book new place draws.listed) at e4 word is sets
 
-        known_is : at.known ≡ second_hand
-        known_is = only_row v3.hand second_hand at.known stage3.hand_is at.in_hand
+          abbrev full : HeldRow Bool
+          full = record (given h) { words = set h.words index word; vacant = without index (vacant_entries h.words) }
 
-        place_is : at.place ≡ place
-        place_is = let e : Some at.place ≡ Some place = sym at.is_set ∙ ap (λ (x : HandRow). x.place) known_is in cc
+          row_is : link_row word ≡ child
+          row_is = ap link_row is ∙ link_row-link_word child generation small
 
-        stage4 : Stage v4 v0.layout v0.core.stand (given h ∷ sprout ∷ []) (h.row ∷ child ∷ []) (record { row = child; has_position = true; has_generation = true } ∷ []) (second_hand ∷ []) (Some new)
-        stage4 = record {
-          layout = ap (λ (v : View). v.layout) e4 ∙ stage3.layout;
-          stand_is = ap (λ (v : View). v.core.stand) e4 ∙ stage3.stand_is;
-          rows_are = ap (λ (v : View). v.rows) e4 ∙ (λ j. stage3.rows_are j ++ opened_row child (place_is j) ((ap (λ (x : HandRow). x.generation) known_is) j) ∷ []);
-          held_are = ap (λ (v : View). v.core.held) e4 ∙ ap (λ (l : List ℕ). l ++ child ∷ []) stage3.held_are;
-          granted = ap (λ (v : View). v.core.granted) e4 ∙ stage3.granted;
-          unlinked = ap (λ (v : View). v.core.unlinked) e4 ∙ stage3.unlinked;
-          hand_is = ap (λ (v : View). v.hand) e4 ∙ stage3.hand_is;
-          last_is = ap (λ (v : View). v.last) e4 ∙ stage3.last_is;
-          has_not = ap (λ (v : View). v.core.has_book) e4 ∙ stage3.has_not;
-        }
+          child_gone : eqb child (link_row word) ≡ true
+          child_gone = eq-eqb child (link_row word) (sym row_is)
 
-        module _ (v5 v6 : View) (word : ℕ) (is : word ≡ link_word child generation) where
-          word_links : is_link word ≡ true
-          word_links = ap is_link is ∙ is_link-link_word child generation small draws.few
+          module _ (e6 : v6 ≡ released v5 child) where
+            stage6 : Stage v6 v0.layout v0.core.stand (full ∷ []) (h.row ∷ []) [] [] (Some new)
+            stage6 = let s = planted v3 v4 v5 v6 v0.layout v0.core.stand (given h) (done child ∷ []) (second_hand ∷ []) new stage3 row index place child generation second_hand may.same_row may.inside may.no_link (is_vacant h.words index may.inside may.no_link)
+                may.below (in_head second_hand []) refl refl refl other small draws.few (times_one_other h.row child (λ e. other (sym e))) (lists_it book new place draws.listed) at e4 word is sets e6 in record {
+                  layout = s.layout;
+                  stand_is = s.stand_is;
+                  rows_are = s.rows_are;
+                  held_are = s.held_are;
+                  granted = s.granted ∙ (λ j. cond (not (child_gone j)) (done child ∷ []) []);
+                  unlinked = s.unlinked;
+                  hand_is = s.hand_is ∙ (λ j. cond (not (child_gone j)) (second_hand ∷ []) []);
+                  last_is = s.last_is;
+                  has_not = s.has_not;
+                }
 
-          word_row : link_row word ≡ child
-          word_row = ap link_row is ∙ link_row-link_word child generation small
+            other_place : h.place ≢ place
+            other_place e = let less = tables.less index in let level = ap (λ (p : Place). p.level) (e ∙ may.below) in omega arith
 
-          given_there : Contains v4.rows (given h)
-          given_there = subst (λ (l : List (HeldRow Bool)). Contains l (given h)) (sym stage4.rows_are) (in_head (given h) (sprout ∷ []))
-
-          sprout_there : Contains v4.rows sprout
-          sprout_there = subst (λ (l : List (HeldRow Bool)). Contains l sprout) (sym stage4.rows_are) (in_tail (given h) (sprout ∷ []) sprout (in_head sprout []))
-
-          pub may_link : MaySetEntry v4 row index word
-          may_link = record {
-            linker = given h;
-            held = given_there;
-            same_row = may.same_row;
-            linked = subst (λ (r : ℕ). NotInHand v4 r) may.same_row (let a = ap (λ (gs : List GrantedRow). times h.row (map (λ (x : GrantedRow). x.row) gs)) stage4.granted in let b = ap (λ us. times h.row (map (λ u. u.row) us)) stage4.unlinked in
-                let n = times-nil h.row in let z = times_one_other h.row child (λ e. other (sym e)) in omega arith);
-            inside = may.inside;
-            old = may.no_link;
-            new = inr (inr (record {
-              link = word_links;
-              child = sprout;
-              is_open = sprout_there;
-              child_row = sym word_row;
-              hand_row = second_hand;
-              granted = subst (λ (l : List HandRow). Contains l second_hand) (sym stage4.hand_is) (in_head second_hand []);
-              same_row = sym word_row;
-              place = may.below ∙ ap (λ (k : Layout). entry_place (levels_of k) h.place index) (sym stage4.layout);
-              generation = sym (ap link_generation is ∙ link_generation-link_word child generation small);
-            }));
-          }
-
-          module _ (sets : Sets row index word v4 v5) where
-            abbrev grown : HeldRow Bool
-            grown = record (given h) { words = set h.words index word; vacant = without index (vacant_entries h.words) }
-
-            abbrev linked : HeldRow Bool
-            linked = record sprout { found = None; is_given = true; vacant = all_entries }
-
-            linked_is : newly_linked (given h) index sprout ≡ linked
-            linked_is = ap (λ (b : Bool). record sprout { found = None; is_given = b; vacant = cond b all_entries [] }) (among_true (vacant_entries h.words) index (is_vacant h.words index may.inside may.no_link))
-
-            e5 : v5 ≡ link_set v4 (given h) index word
-            e5 = sets (given h) given_there may.same_row ∙ ap (λ (b : Bool). cond b (link_set v4 (given h) index word) (word_set v4 h.row index word)) word_links
-
-            abbrev change : HeldRow Bool → HeldRow Bool
-            change x = with_link (given h) index (link_row word) (with_word h.row index word x)
-
-            grown_is : change (given h) ≡ grown
-            grown_is = let z : HeldRow Bool = record (given h) { words = set h.words index word } in ap (with_link (given h) index (link_row word)) (ap (λ (b : Bool). cond b z (given h)) (eq-eqb h.row h.row refl))
-                ∙ (ap (λ (b : Bool). cond b (newly_linked (given h) index z) (cond (eqb h.row h.row) (record z { vacant = without index z.vacant }) z)) (ne_eqb h.row (link_row word) (λ e. other (e ∙ word_row)))
-                ∙ ap (λ (b : Bool). cond b (record z { vacant = without index z.vacant }) z) (eq-eqb h.row h.row refl))
-
-            sprout_is : change sprout ≡ linked
-            sprout_is = ap (with_link (given h) index (link_row word)) (ap (λ (b : Bool). cond b (record sprout { words = set sprout.words index word }) sprout) (ne_eqb child h.row (λ e. other (sym e))))
-                ∙ (ap (λ (b : Bool). cond b (newly_linked (given h) index sprout) (cond (eqb child h.row) (record sprout { vacant = without index sprout.vacant }) sprout)) (eq-eqb child (link_row word) (sym word_row)) ∙ linked_is)
-
-            stage5 : Stage v5 v0.layout v0.core.stand (grown ∷ linked ∷ []) (h.row ∷ child ∷ []) [] [] (Some new)
-            stage5 = record {
-              layout = ap (λ (v : View). v.layout) e5 ∙ stage4.layout;
-              stand_is = ap (λ (v : View). v.core.stand) e5 ∙ stage4.stand_is;
-              rows_are = ap (λ (v : View). v.rows) e5 ∙ (ap (map change) stage4.rows_are ∙ (λ j. grown_is j ∷ sprout_is j ∷ []));
-              held_are = ap (λ (v : View). v.core.held) e5 ∙ stage4.held_are;
-              granted = ap (λ (v : View). v.core.granted) e5 ∙ (ap (granted_after_entry word) stage4.granted
-                  ∙ (ap (λ (b : Bool). cond b (cond (not (eqb child (link_row word))) (record { row = child; has_position = true; has_generation = true } ∷ []) []) (record { row = child; has_position = true; has_generation = true } ∷ [])) word_links
-                  ∙ ap (λ (b : Bool). cond (not b) (record { row = child; has_position = true; has_generation = true } ∷ []) []) (eq-eqb child (link_row word) (sym word_row))));
-              unlinked = ap (λ (v : View). v.core.unlinked) e5 ∙ stage4.unlinked;
-              hand_is = ap (λ (v : View). v.hand) e5 ∙ (ap (filter (λ (x : HandRow). not (eqb x.row (link_row word)))) stage4.hand_is ∙ ap (λ (b : Bool). cond (not b) (second_hand ∷ []) []) (eq-eqb child (link_row word) (sym word_row)));
-              last_is = ap (λ (v : View). v.last) e5 ∙ stage4.last_is;
-              has_not = ap (λ (v : View). v.core.has_book) e5 ∙ stage4.has_not;
+            pub is_sown : IsSown v0 h index place child v6
+            is_sown = record {
+              word = word;
+              link = ap is_link is ∙ is_link-link_word child generation small draws.few;
+              to_child = row_is;
+              keeps = keeps_after v0 v6 h full book new rows may.alone learns stage6 refl refl refl (lists_other book new place draws.listed h.place other_place);
+              book = new;
+              last = stage6.last_is;
+              listed = lists_it book new place draws.listed;
             }
-
-            linked_there : Contains v5.rows linked
-            linked_there = subst (λ (l : List (HeldRow Bool)). Contains l linked) (sym stage5.rows_are) (in_tail grown (linked ∷ []) linked (in_head linked []))
-
-            pub may_release_linked : NotInHand v5 child
-            may_release_linked = let a = ap (λ (gs : List GrantedRow). times child (map (λ (x : GrantedRow). x.row) gs)) stage5.granted in let b = ap (λ us. times child (map (λ u. u.row) us)) stage5.unlinked in let n = times-nil child in omega arith
-
-            pub child_fits : (content : Bool) → content ≡ true → Fits sown v5 child content
-            child_fits content it = record { known = linked; held = linked_there; same_row = refl; content_fits = inr (refl, (new, stage5.last_is, it ∙ sym (lists_it book new place draws.listed))) }
-
-            module _ (e6 : v6 ≡ released v5 child) where
-              stage6 : Stage v6 v0.layout v0.core.stand (grown ∷ []) (h.row ∷ []) [] [] (Some new)
-              stage6 = record {
-                layout = ap (λ (v : View). v.layout) e6 ∙ stage5.layout;
-                stand_is = ap (λ (v : View). v.core.stand) e6 ∙ stage5.stand_is;
-                rows_are = ap (λ (v : View). v.rows) e6 ∙ (ap (filter (λ (x : HeldRow Bool). not (eqb x.row child))) stage5.rows_are
-                    ∙ (ap (λ (b : Bool). cond (not b) (grown ∷ filter (λ (x : HeldRow Bool). not (eqb x.row child)) (linked ∷ [])) (filter (λ (x : HeldRow Bool). not (eqb x.row child)) (linked ∷ []))) (ne_eqb h.row child other)
-                    ∙ ap (λ (b : Bool). grown ∷ cond (not b) (linked ∷ []) []) (eq-eqb child child refl)));
-                held_are = ap (λ (v : View). v.core.held) e6 ∙ (ap (without child) stage5.held_are
-                    ∙ (ap (λ (b : Bool). cond (not b) (h.row ∷ without child (child ∷ [])) (without child (child ∷ []))) (ne_eqb h.row child other)
-                    ∙ ap (λ (b : Bool). h.row ∷ cond (not b) (child ∷ []) []) (eq-eqb child child refl)));
-                granted = ap (λ (v : View). v.core.granted) e6 ∙ stage5.granted;
-                unlinked = ap (λ (v : View). v.core.unlinked) e6 ∙ stage5.unlinked;
-                hand_is = ap (λ (v : View). v.hand) e6 ∙ stage5.hand_is;
-                last_is = ap (λ (v : View). v.last) e6 ∙ stage5.last_is;
-                has_not = ap (λ (v : View). v.core.has_book) e6 ∙ stage5.has_not;
-              }
-
-              other_place : h.place ≢ place
-              other_place e = let less = tables.less index in let level = ap (λ (p : Place). p.level) (e ∙ may.below) in omega arith
-
-              pub is_sown : IsSown v0 h index place child v6
-              is_sown = record {
-                word = word;
-                link = word_links;
-                to_child = word_row;
-                keeps = keeps_after v0 v6 h grown book new rows may.alone learns stage6 refl refl refl (lists_other book new place draws.listed h.place other_place);
-                book = new;
-                last = stage6.last_is;
-                listed = lists_it book new place draws.listed;
-              }
 
 -- The give of a sowing, whether a row was drawn or not
 pub may_give_back : (k : Layout) (v0 v1 : View) (book new : Seeds) (row index : ℕ) (place : Place) (rows : ℕ) (drawn : Option (ℕ × ℕ)) → MaySow v0 row index place → Learns sown rows v0 book → rows ≤ 1024 → v1 ≡ turned sown v0 book
     → MatchOption drawn (SameSeeds book new) (λ r. Draws book place r.0 r.1 new) → MayGive sown k v1 book new
-may_give_back k v0 v1 book new row index place rows None may learns few e1 same = may_return k v1 book new same (ap (λ (v : View). v.core.has_book) e1)
+may_give_back k v0 v1 book new row index place rows None may learns few e1 same = may_return k v1 book new same (ap (λ (v : View). v.core.has_book) e1) (λ q. let o = learns.once q in omega arith)
 may_give_back k v0 v1 book new row index place rows (Some r) may learns few e1 draws = may_give_drawn v0 v1 v1 book new row index place r.0 r.1 rows may learns few e1 draws k

@@ -7,7 +7,7 @@
 --     SameSeeds, Draws      a book that is as it was, and one from which a row and a generation were taken and that lists one position more
 --     KeepsRow, IsSown, Sows      the pass still holds the row, a new row is linked, and what a sowing does
 --     MaySowBoth, DrawsBoth, AreSown, SowsBoth      the same of two rows at once
-use Rattle.std.specs.Prelude.{◌≡◌, ◌≢◌, ℕ, ◌+◌, ◌^◌, ◌<◌, ◌≤◌, ⊤, Bool, true, false, ◌&&◌, List, [], ◌∷◌, ◌++◌, length, slice_index, slice_set, nat_eq, Option, None, Some}
+use Rattle.std.specs.Prelude.{◌≡◌, ◌≢◌, ℕ, ◌+◌, ◌^◌, ◌<◌, ◌≤◌, ⊤, Bool, true, false, ◌&&◌, List, [], ◌∷◌, ◌++◌, slice_index, slice_set, nat_eq, Option, None, Some}
 use Rattle.std.specs.List.{list_any}
 use Rattle.std.proofs.Common.{sym, refl, inl, ◌∙◌}
 use Rattle.table_place.specs.declared.Place.{Place}
@@ -75,7 +75,6 @@ pub record MaySow (v : View) (row index : ℕ) (place : Place) : Type 0 where
   pub alone : HoldsAlone v known
   pub same_row : known.row ≡ row
   pub inside : index < 512
-  pub long : length known.words ≡ 512
   pub no_link : is_link (slice_index known.words index) ≡ false
   pub below : place ≡ entry_place (levels_of v.layout) known.place index
   pub is_place : is_place (levels_of v.layout) place ≡ true

@@ -56,7 +56,6 @@ pub record HasRoot (v : View) (word : ℕ) (rows : List ℕ) (gs : List GrantedR
   pub there : Contains v.rows row_one
   pub number : row_one.row ≡ 1
   pub place : row_one.place ≡ entry_place (levels_of v.layout) directory 0
-  pub long : length row_one.words ≡ 512
   pub word_five : slice_index row_one.words 5 ≡ word
   pub is_given : row_one.is_given ≡ given
   pub last : given ≡ true → (b : Stock) × (v.last ≡ Some b)
@@ -68,6 +67,7 @@ pub record HasRoot (v : View) (word : ℕ) (rows : List ℕ) (gs : List GrantedR
 
 pub record HasGrant (v : View) (row generation : ℕ) : Type 0 where
   pub root : HasRoot v 0 (1 ∷ []) (newly_granted row ∷ []) [] true
+  pub long : length root.row_one.words ≡ 512
   pub known : HandRow
   pub in_hand : Contains v.hand known
   pub same_row : known.row ≡ row

@@ -1,4 +1,4 @@
-use Rattle.std.proofs.Common.{ap, refl}
+use Rattle.std.proofs.Common.{ap}
 use Rattle.row_table.specs.Passes.{view_of}
 use Rattle.row_uses.specs.Sown.{View}
 use Rattle.row_uses.proofs.SownSteps.{kept_waiting, kept_undrawn, may_give_back, may_prepare, may_link, may_release_linked, small, child_fits, is_sown}
@@ -34,7 +34,7 @@ release-requires-clause-linked c κs = let t = c.in-Got.ensures.turns in let o =
 
 pub release-requires-clause-fits : goal.release-requires-clause-fits
 release-requires-clause-fits c κs = let t = c.in-Got.ensures.turns in let o = c.open_row.ensures.opens in let v = view_of c.set_entry.new.self in
-    child_fits _ _ _ _ _ _ _ _ _ _ _ c.requires.may t.0 c.layout.ensures.sizes.1 t.1 c.in-Some.ensures c.give.ensures.gives _ _ c.set_up.ensures.sets_up o.0 o.2 _ v _ c.link_word-word.ensures c.set_entry.ensures.sets _ refl
+    child_fits _ _ _ _ _ _ _ _ _ _ _ c.requires.may t.0 c.layout.ensures.sizes.1 t.1 c.in-Some.ensures c.give.ensures.gives _ _ c.set_up.ensures.sets_up o.0 o.2 _ v _ c.link_word-word.ensures c.set_entry.ensures.sets
 
 pub returns-clause-sows : goal.returns-clause-sows
 returns-clause-sows c = λ may. let t = c.in-Got.ensures.turns in let o = c.open_row.ensures.opens in

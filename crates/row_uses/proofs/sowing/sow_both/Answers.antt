@@ -1,8 +1,8 @@
-use Rattle.std.proofs.Common.{ap, refl}
+use Rattle.std.proofs.Common.{sym, ap, refl}
 use Rattle.row_table.specs.Passes.{view_of}
 use Rattle.row_uses.specs.Sown.{View}
 use Rattle.row_uses.proofs.SownSteps.{kept_waiting, kept_undrawn}
-use Rattle.row_uses.proofs.SownPair.{may_give_both, small_a, small_b, few_a, may_prepare_a, may_prepare_b, may_link_a, may_release_a, fits_a, may_open_b, may_link_b, may_release_b, fits_b, are_sown}
+use Rattle.row_uses.proofs.SownPair.{may_give_both, small_a, small_b, few_a, two_rows, not_linked, may_prepare_a, may_prepare_b, may_link_a, may_release_a, fits_a, may_link_b, may_release_b, fits_b, are_sown}
 use Rattle.row_uses.proofs.sowing.sow_both.Goals as goal
 
 pub returns-in-Held-clause-sows : goal.returns-in-Held-clause-sows
@@ -48,9 +48,10 @@ release-requires-clause-fits c κs = let t = c.in-Got.ensures.turns in let o = c
     c.set_entry.ensures.sets
 
 pub open_row-requires-2-clause-guard : goal.open_row-requires-2-clause-guard
-open_row-requires-2-clause-guard c κs = let t = c.in-Got.ensures.turns in let o = c.open_row.ensures.opens in
-    may_open_b _ _ _ _ _ _ c.args.first c.args.second c.in-Some.one c.in-Some.two _ c.requires.may t.0 c.layout.ensures.sizes.1 t.1 c.in-Some.ensures c.give.ensures.gives _ _ c.set_up.ensures.sets_up c.set_up-2.ensures.sets_up _ _ _ o.0 o.2 _ c.link_word-word.ensures
-    c.set_entry.ensures.sets c.release.ensures.releases
+open_row-requires-2-clause-guard c κs = let t = c.in-Got.ensures.turns in let v = view_of c.turn.new.self in
+    let apart = two_rows _ v v _ _ _ c.args.first c.args.second c.in-Some.one c.in-Some.two _ c.requires.may t.0 c.layout.ensures.sizes.1 t.1 c.in-Some.ensures in
+    let unlinked = not_linked _ v v _ _ _ c.args.first c.args.second c.in-Some.one c.in-Some.two _ c.requires.may t.0 c.layout.ensures.sizes.1 t.1 c.in-Some.ensures _ c.link_word-word.ensures in
+    c.release.ensures.others _ (λ e. apart (sym e)) (c.set_entry.ensures.others _ (λ _. unlinked) (c.open_row.ensures.others _ (λ e. apart (sym e)) (c.set_up-2.ensures.others _ (λ e. apart (sym e)) c.set_up.ensures.may_open)))
 
 pub link_word-word-requires-2 : goal.link_word-word-requires-2
 link_word-word-requires-2 c = let t = c.in-Got.ensures.turns in let v = view_of c.turn.new.self in

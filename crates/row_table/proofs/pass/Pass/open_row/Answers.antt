@@ -1,8 +1,10 @@
 use Rattle.std.proofs.Common.{◌≡◌, rules, arith, ℕ, List, [], ◌∷◌, sym, ap, ◌∙◌, subst, None}
 use Rattle.walk_core.specs.Lists.{times}
+use Rattle.row_table.specs.declared.view.PassView.{PassView}
 use Rattle.row_table.specs.Rule.{view}
-use Rattle.row_table.specs.Openings.{opened}
+use Rattle.row_table.specs.Openings.{opened, KeepsOpen}
 use Rattle.row_table.proofs.Openings.{opens_at}
+use Rattle.row_table.proofs.Ready.{kept_opened}
 use Rattle.row_table.proofs.Told.{Kept, kept_by, view_of, front_of, swapped, came_out, not_carried, room_left, carries_row, rows_with}
 use Rattle.row_table.proofs.Sized.{open_there, sized_opened}
 use Rattle.row_table.proofs.pass.Pass.open_row.Goals as goal
@@ -51,3 +53,7 @@ pub returns-clause-opens : goal.returns-clause-opens
 returns-clause-opens g c =
     let t = c.store.ensures.2 c.args.row c.lock-word.ensures in let same = came_out _ _ _ _ _ _ t.3 c.take_row.ensures.front in
     (t.0, subst g.P.Plan.meaning.is_blank same t.2, view_of _ _ _ (swapped _ _ _ _ _ _ t.3 c.take_row.ensures.seat))
+
+pub returns-clause-others : goal.returns-clause-others
+returns-clause-others g c = let v : PassView g.row.P-Row.Denot g.row.P-Book.Denot g.row.P-Entry.Denot = view c.args.self.now.seat.me in let o = returns-clause-opens g c in
+    subst (λ (u : PassView g.row.P-Row.Denot g.row.P-Book.Denot g.row.P-Entry.Denot). KeepsOpen c.args.row v u) (sym o.2) (kept_opened v c.args.row o.0.known.generation o.0.place)

@@ -4,8 +4,10 @@ use Rattle.walk_core.specs.Lists.{times, Has}
 use Rattle.row_table.specs.declared.view.PassView.{PassView}
 use Rattle.row_table.specs.Rule.{Seat, view, SameRows}
 use Rattle.row_table.specs.Stack.{outs, carried}
+use Rattle.row_table.specs.Openings.{KeepsOpen}
 use Rattle.row_table.specs.Moves.{released, NotInHand, Fits}
 use Rattle.row_table.proofs.Locks.{releases_at}
+use Rattle.row_table.proofs.Ready.{kept_released}
 use Rattle.row_table.proofs.Told.{Kept, kept_by, one_of, view_of, front_of, put_in, carried_row, carries_less, rows_less}
 use Rattle.row_table.proofs.Sizes.{view_held, view_there, held_there, sized_released}
 use Rattle.row_table.proofs.pass.Pass.release.Goals as goal
@@ -56,3 +58,7 @@ returns-clause-releases g c = let p = c.args.self.now in
     let front : c.bring.new.seat.me.1 ≡ (c.args.row, None) ∷ outs c.bring.ensures.front.0 = c.bring.ensures.stacked ∙ ap outs c.bring.ensures.front.1 in
     let is = put_in p.number p.seat.me c.bring.new.seat.me c.put_row.new.seat.me _ _ _ p.one c.bring.ensures.same.0 front c.put_row.ensures.seat in
     view_of _ _ _ (c.store.ensures.2 c.args.row c.lock-word.ensures) ∙ ap (λ (v : PassView g.row.P-Row.Denot g.row.P-Book.Denot g.row.P-Entry.Denot). released v c.args.row) (view_of _ _ _ is)
+
+pub returns-clause-others : goal.returns-clause-others
+returns-clause-others g c = let v : PassView g.row.P-Row.Denot g.row.P-Book.Denot g.row.P-Entry.Denot = view c.args.self.now.seat.me in
+    subst (λ (u : PassView g.row.P-Row.Denot g.row.P-Book.Denot g.row.P-Entry.Denot). KeepsOpen c.args.row v u) (sym (returns-clause-releases g c)) (kept_released v c.args.row)

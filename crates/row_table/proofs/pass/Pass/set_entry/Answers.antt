@@ -3,8 +3,9 @@ use Rattle.row_table.specs.declared.view.PassView.{PassView}
 use Rattle.row_table.specs.Rule.{view}
 use Rattle.walk_core.specs.Lists.{times}
 use Rattle.row_table.specs.Stack.{carried, AreRows}
-use Rattle.row_table.specs.Links.{entry_set}
+use Rattle.row_table.specs.Links.{entry_set, KeepsUnlinked}
 use Rattle.row_table.proofs.Links.{sets_at}
+use Rattle.row_table.proofs.Ready.{kept_entry}
 use Rattle.row_table.proofs.Told.{Kept, kept_by, view_of}
 use Rattle.row_table.proofs.Sizes.{view_there}
 use Rattle.row_table.proofs.Sized.{entry_same, sized_entry}
@@ -44,3 +45,7 @@ invariant_of-self g c =
 
 pub returns-clause-sets : goal.returns-clause-sets
 returns-clause-sets g c linker held same = let t = c.store.ensures.2 c.args.row c.args.index linker c.requires.guard.inside c.entry-place.ensures held same in view_of _ _ _ t.1
+
+pub returns-clause-others : goal.returns-clause-others
+returns-clause-others g c = let v : PassView g.row.P-Row.Denot g.row.P-Book.Denot g.row.P-Entry.Denot = view c.args.self.now.seat.me in let may = c.requires.guard in
+    subst (λ (u : PassView g.row.P-Row.Denot g.row.P-Book.Denot g.row.P-Entry.Denot). KeepsUnlinked c.args.word v u) (sym (returns-clause-sets g c may.linker may.held may.same_row)) (kept_entry v may.linker c.args.index c.args.word)

@@ -2,8 +2,9 @@ use Rattle.std.proofs.Common.{rules, arith, [], ◌∷◌, sym, ap, ◌∙◌, s
 use Rattle.walk_core.specs.Words.{place_shown}
 use Rattle.row_table.specs.declared.view.PassView.{PassView}
 use Rattle.row_table.specs.Rule.{Seat, view}
-use Rattle.row_table.specs.Openings.{numbered, prepared, MayOpen}
+use Rattle.row_table.specs.Openings.{numbered, prepared, MayOpen, KeepsOpen}
 use Rattle.row_table.proofs.Openings.{is_spelled, spelled_is, places_at, numbers_next, may_open}
+use Rattle.row_table.proofs.Ready.{kept_prepared}
 use Rattle.row_table.proofs.Told.{Kept, kept_by, view_of}
 use Rattle.row_table.proofs.Sized.{hand_there, sized_prepared}
 use Rattle.row_table.proofs.pass.Pass.set_up.Goals as goal
@@ -61,3 +62,7 @@ returns-clause-may_open g c =
     let v : PassView g.row.P-Row.Denot g.row.P-Book.Denot g.row.P-Entry.Denot = view c.args.self.now.seat.me in let guard = c.requires.guard in
     subst (λ (u : PassView g.row.P-Row.Denot g.row.P-Book.Denot g.row.P-Entry.Denot). MayOpen u c.args.row) (sym (returns-clause-sets_up g c))
     (may_open g.P.Plan.meaning v c.args.row c.args.generation c.args.place guard.known c.args.self.now.sized.granted.0 guard.in_hand guard.same_row guard.closed)
+
+pub returns-clause-others : goal.returns-clause-others
+returns-clause-others g c = let v : PassView g.row.P-Row.Denot g.row.P-Book.Denot g.row.P-Entry.Denot = view c.args.self.now.seat.me in
+    subst (λ (u : PassView g.row.P-Row.Denot g.row.P-Book.Denot g.row.P-Entry.Denot). KeepsOpen c.args.row v u) (sym (returns-clause-sets_up g c)) (kept_prepared v c.args.row c.args.generation c.args.place)
