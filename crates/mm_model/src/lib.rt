@@ -15,3 +15,5 @@ pub use step::StepFault;
 
 #[cfg(test)]
 mod tests;
+#[cfg(test)]
+mod transaction_tests;
