@@ -2,6 +2,7 @@
 #![tactic(auto)]
 
 mod accesses;
+mod lacking;
 mod mapping;
 mod operations;
 mod plain;

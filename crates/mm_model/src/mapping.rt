@@ -11,6 +11,7 @@ ghost use Rattle.plain_spaces.specs.Backing.{index_of};
 ghost use Rattle.plain_spaces.specs.Reach.{IsCounted, Follows, Keeps};
 ghost use Rattle.mm_model.specs.Placing.{call_of, call_at, IsPlaced, IsFixed, MayPut, after_put, filled, tables_with, tables_lack};
 
+use crate::lacking::lack;
 use crate::plain::Plain;
 use corten_base::{Backing, Perm, Range, Reply, SpaceId};
 use file_shelf::Shelf;
@@ -128,14 +129,7 @@ impl Plain {
     {
         let linked = self.tables.len() as u32;
         let need = self.tables.need(space, first, count);
-        if u64::from(linked) + need + u64::from(limbo) <= u64::from(self.limits.tables) {
-            return None;
-        }
-        Some(Reply::NoTables {
-            linked,
-            limbo,
-            need,
-        })
+        lack(self.limits.tables, linked, limbo, need)
     }
 
     /// Maps the pages of a mapping from one on.
