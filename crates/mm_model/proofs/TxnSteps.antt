@@ -1,9 +1,9 @@
 -- The step of a transaction.
-use Rattle.std.proofs.Common.{◌≡◌, ℕ, ◌+◌, ◌/◌, ◌^◌, ◌<◌, ◌≤◌, Bool, true, false, cond, not, List, [], ◌∷◌, length, refl, sym, ap, subst, ◌∙◌, arith}
+use Rattle.std.proofs.Common.{◌≡◌, ℕ, ◌+◌, ◌/◌, ◌^◌, ◌<◌, Bool, true, false, cond, List, [], ◌∷◌, length, refl, sym, ap, subst, ◌∙◌, arith}
 use Rattle.std.specs.Prelude.{Option, Some, None, is_some, nat_eq, nat_lt, IsSome}
 use Rattle.std.specs.List.{All, flat_map}
 use Rattle.std.specs.Option.{option_or, option_map, unwrap_or}
-use Rattle.std.proofs.lemmas.Bool.{le-ltb, lt-ltb, eqb-true, eqb-false}
+use Rattle.std.proofs.lemmas.Bool.{le-ltb, eqb-true, eqb-false}
 use Rattle.std.specs.FinMap as fin
 use Rattle.std.specs.FinMap.{get}
 use Rattle.std.specs.FinSet as set
@@ -17,13 +17,13 @@ use Rattle.table_place.specs.declared.Place.{Place}
 use Rattle.table_place.specs.Place.{is_page_range, pages_of}
 use Rattle.page_map.specs.Cell.{frame_of, slot_of}
 use Rattle.page_map.specs.Mapping.{is_right_within, undone, op_pages, after_ops}
-use Rattle.page_map.specs.State.{State, AddressSpace, IsConsistent, linked, is_present, space_at, unused_frames, unused_slots}
-use Rattle.page_map.specs.Tables.{Tables, need, changed_tables}
-use Rattle.page_map.specs.Effect.{above_op, wanting_frames_of, wanting_slots_of, state_after, answer}
-use Rattle.page_map.specs.Step.{step, refusal, first_refusal, refused_unless, arguments, no_space, no_spaces, no_place, pages, no_tables, no_frames, no_swap}
+use Rattle.page_map.specs.State.{State, AddressSpace, IsConsistent, is_present, space_at, unused_frames, unused_slots}
+use Rattle.page_map.specs.Tables.{Tables}
+use Rattle.page_map.specs.Effect.{above_op, state_after, answer}
+use Rattle.page_map.specs.Step.{step, refusal, first_refusal, refused_unless}
 use Rattle.page_map.proofs.Cells.{spaces_changed}
 use Rattle.page_map.proofs.Growth.{all_stay}
-use Rattle.page_map.proofs.Steps.{not_none, accepted, refused, Passed, passed}
+use Rattle.page_map.proofs.Steps.{not_none, accepted, Passed, passed}
 use Rattle.page_map.proofs.StepKeeps.{step_keeps}
 use Rattle.plain_counts.specs.Fronts.{AreFull, IsFull, full_pages}
 use Rattle.plain_spaces.specs.Reach.{Follows}
@@ -170,14 +170,3 @@ module _ (st : State) (space : ℕ) (ops : List TxnOp) (may : MayCommit st space
       slot_counts = counts_follow slot_of st st.limits.swap slots sound.slot_counts sound.state.slots space cells here slots' cells' next refl slots_follow;
       full = still_full fronts fronts' sound.full forgets;
     }
-
--- too few page tables, or enough
-pub lacks_none : (st : State) (wanted : List Place) (limbo n linked_now : ℕ) → n ≡ need wanted st.tables → linked_now ≡ linked st → linked_now + n + limbo ≤ st.limits.tables → None ≡ tables_lack st wanted limbo
-lacks_none st wanted limbo n linked_now n_is linked_is room =
-    sym (ap (λ b. cond b (Some (reply.NoTables (linked st) limbo (need wanted st.tables))) None) (le-ltb st.limits.tables (linked st + need wanted st.tables + limbo) (omega (arith, room, n_is, linked_is))))
-
-pub lacks_some : (st : State) (wanted : List Place) (limbo n linked_now : ℕ) → n ≡ need wanted st.tables → linked_now ≡ linked st → st.limits.tables < linked_now + n + limbo →
-    Some (reply.NoTables linked_now limbo n) ≡ tables_lack st wanted limbo
-lacks_some st wanted limbo n linked_now n_is linked_is short =
-    (λ i. Some (reply.NoTables (linked_is i) limbo (n_is i)))
-    ∙ sym (ap (λ b. cond b (Some (reply.NoTables (linked st) limbo (need wanted st.tables))) None) (lt-ltb st.limits.tables (linked st + need wanted st.tables + limbo) (omega (arith, short, n_is, linked_is))))

@@ -2,7 +2,7 @@
 --     call_of      the call that asks for a mapping at the least gap
 --     IsPlaced      nothing refuses it, and the gap starts at this page
 --     filled, tables_with      the cells and the tables after it
---     tables_lack      the refusal where there are too few page tables
+--     lack, tables_lack      the refusal where there are too few page tables, by their numbers;  in a state
 --     MayPut, after_put      whether its pages may go to those from a page on;  the state after they did
 --     call_at      the call that asks for a mapping at an address
 --     IsFixed      nothing refuses it, and its first page is this one
@@ -37,11 +37,13 @@ filled m first cells = change cells first (pages_of m.len) (λ page _. Some (bac
 abbrev pub tables_with : Mapping → ℕ → Tables → Tables
 tables_with m first tables = set.union tables (set.from_list (above 4 m.space first (pages_of m.len)))
 
+-- the tables that are linked, in limbo and needed are more than there are
+abbrev pub lack : ℕ → ℕ → ℕ → ℕ → Option Reply
+lack tables linked_now limbo n = cond (nat_lt tables (linked_now + n + limbo)) (Some (reply.NoTables linked_now limbo n)) None
+
 -- the tables above it are too few
 abbrev pub tables_lack : State → List Place → ℕ → Option Reply
-tables_lack st wanted limbo =
-    let n = need wanted st.tables in
-    cond (nat_lt st.limits.tables (linked st + n + limbo)) (Some (reply.NoTables (linked st) limbo n)) None
+tables_lack st wanted limbo = lack st.limits.tables (linked st) limbo (need wanted st.tables)
 
 -- its pages may go to those from a page on
 pub record MayPut (st : State) (m : Mapping) (first : ℕ) : Type 0 where

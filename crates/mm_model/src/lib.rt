@@ -2,6 +2,7 @@
 #![tactic(auto)]
 
 mod accesses;
+mod lacking;
 mod mapping;
 mod operations;
 mod plain;
@@ -15,3 +16,5 @@ pub use step::StepFault;
 
 #[cfg(test)]
 mod tests;
+#[cfg(test)]
+mod transaction_tests;

@@ -4,21 +4,23 @@ ghost use Rattle.std.specs.FinMap as map;
 ghost use Rattle.table_place.specs.Place.{above, pages_of};
 ghost use Rattle.page_map.specs.Cell.{frame_of, slot_of};
 ghost use Rattle.page_map.specs.Change.{least};
-ghost use Rattle.page_map.specs.Mapping.{is_backing, is_mappable};
+ghost use Rattle.page_map.specs.Mapping.{is_mappable};
 ghost use Rattle.page_map.specs.State.{linked};
 ghost use Rattle.page_map.specs.Step.{refusal, step};
 ghost use Rattle.plain_spaces.specs.Backing.{index_of};
 ghost use Rattle.plain_spaces.specs.Reach.{IsCounted, Follows, Keeps};
 ghost use Rattle.mm_model.specs.Placing.{call_of, call_at, IsPlaced, IsFixed, MayPut, after_put, filled, tables_with, tables_lack};
 
+use crate::lacking::lack;
 use crate::plain::Plain;
 use corten_base::{Backing, Perm, Range, Reply, SpaceId};
 use file_shelf::Shelf;
 use plain_counts::{Owners, Tables};
 use plain_spaces::{AddressSpace, NewPages};
 use std::alloc::{AllocError, Global};
+use txn_plan::is_mappable;
 
-/// A mapping without a place of its own.
+/// A mapping without its place, since the rest is the same at a gap and at an address.
 #[derive(Clone, Copy)]
 pub struct Mapping {
     /// The space that gets the pages.
@@ -31,27 +33,11 @@ pub struct Mapping {
     pub backing: Backing,
 }
 
-/// The greatest length of a mapping, half of the address space.
-const GREATEST_LEN: u64 = 1 << 47;
-
-/// The greatest index of a page in a file.
-const GREATEST_INDEX: u64 = 1 << 40;
-
 /// How many pages a length covers.
 fn pages(len: u64) -> u64
     ensures { result ≡ pages_of len }
 {
     len / 4096 + if len % 4096 == 0 { 0 } else { 1 }
-}
-
-/// Whether there is a file of its number, and its index is in bounds.
-fn is_backing(shelf: &Shelf, backing: Backing) -> bool
-    ensures { result ≡ is_backing shelf.now backing }
-{
-    match backing {
-        Backing::Zero => true,
-        Backing::File { file, index } => file < shelf.count() && index <= GREATEST_INDEX,
-    }
 }
 
 /// The least page of a range that has a cell, where the range has to be empty.
@@ -71,7 +57,7 @@ impl Mapping {
     fn is_right(&self, shelf: &Shelf) -> bool
         ensures { result ≡ is_mappable 4 shelf.now self.now.len self.now.backing }
     {
-        self.len > 0 && self.len <= GREATEST_LEN && is_backing(shelf, self.backing)
+        is_mappable(shelf, self.len, self.backing)
     }
 
     /// Maps its pages from one on, which take the place of what was there, and puts in the tables above them.
@@ -143,14 +129,7 @@ impl Plain {
     {
         let linked = self.tables.len() as u32;
         let need = self.tables.need(space, first, count);
-        if u64::from(linked) + need + u64::from(limbo) <= u64::from(self.limits.tables) {
-            return None;
-        }
-        Some(Reply::NoTables {
-            linked,
-            limbo,
-            need,
-        })
+        lack(self.limits.tables, linked, limbo, need)
     }
 
     /// Maps the pages of a mapping from one on.
@@ -222,7 +201,8 @@ impl Plain {
         }
     }
 
-    /// The same, where no search goes over the pages again by which the arena is full from its beginning.
+    /// Maps pages at the least gap of a thread's arena. How far the arena is full is noted first, since a search from its
+    /// beginning takes longer with each mapping.
     pub(crate) fn map_any(
         &mut self,
         alloc: Global,

@@ -10,6 +10,7 @@ ghost use Rattle.plain_spaces.specs.Reach.{IsCounted};
 ghost use Rattle.mm_model.specs.NewSpaces.{MayMake, made};
 ghost use Rattle.mm_model.specs.Placing.{tables_lack};
 
+use crate::lacking::lack;
 use crate::plain::Plain;
 use corten_base::{Reply, SpaceId};
 use plain_counts::{Owners, Tables};
@@ -63,14 +64,7 @@ impl Plain {
         cells.add_tables(alloc, &mut wanted, new)?;
         let need = wanted.len() as u64;
         let linked = self.tables.len() as u32;
-        if need <= u64::from(self.limits.tables - linked - limbo) {
-            return Ok(None);
-        }
-        Ok(Some(Reply::NoTables {
-            linked,
-            limbo,
-            need,
-        }))
+        Ok(lack(self.limits.tables, linked, limbo, need))
     }
 
     /// Makes a space that is absent, with these cells, unless there are too few page tables for it.

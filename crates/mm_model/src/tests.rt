@@ -1,5 +1,6 @@
 //! Replies, with ample memory.
 ghost use Rattle.std.specs.Prelude.{IfOk};
+ghost use Rattle.page_map.specs.State.{IsWithinLimits};
 ghost use Rattle.mm_model.specs.Served.{IsServed};
 
 use super::*;
@@ -98,10 +99,11 @@ fn call_of(alloc: Global, space: SpaceId, asked: Asked) -> Result<Call, AllocErr
     }
 }
 
-/// A reply without bytes.
+/// A reply, which has no bytes or two.
 #[derive(Clone, Copy)]
 enum Wanted {
     Ok,
+    Bytes([u8; 2]),
     Einval,
     NoSpace,
     NoRoom,
@@ -114,15 +116,17 @@ enum Wanted {
     NoFrames(u32, u32),
     Space(u8),
     NoSpaces,
-    NoTables(u32, u64),
+    /// With the tables that are linked, in limbo and needed.
+    NoTables(u32, u32, u64),
     Moved(u32),
     NoSwap(u32, u32),
 }
 
 /// The reply that is wanted.
-fn reply_of(wanted: Wanted) -> Reply {
-    match wanted {
+fn reply_of(alloc: Global, wanted: Wanted) -> Result<Reply, AllocError> {
+    Ok(match wanted {
         Wanted::Ok => Reply::Ok,
+        Wanted::Bytes(two) => Reply::Bytes(ByteList::of(alloc, &two)?),
         Wanted::Einval => Reply::Einval,
         Wanted::NoSpace => Reply::NoSpace,
         Wanted::NoRoom => Reply::NoRoom,
@@ -135,42 +139,58 @@ fn reply_of(wanted: Wanted) -> Reply {
         Wanted::NoFrames(free, need) => Reply::NoFrames { free, need },
         Wanted::Space(new) => Reply::Space(new),
         Wanted::NoSpaces => Reply::NoSpaces,
-        Wanted::NoTables(linked, need) => Reply::NoTables {
+        Wanted::NoTables(linked, limbo, need) => Reply::NoTables {
             linked,
-            limbo: 0,
+            limbo,
             need,
         },
         Wanted::Moved(pages) => Reply::Moved(pages),
         Wanted::NoSwap(free, need) => Reply::NoSwap { free, need },
-    }
+    })
 }
 
-fn is_wanted(reply: &Reply, wanted: Wanted) -> bool {
-    *reply == reply_of(wanted)
+fn is_wanted(alloc: Global, reply: &Reply, wanted: Wanted) -> Result<bool, AllocError> {
+    Ok(*reply == reply_of(alloc, wanted)?)
 }
 
 /// A call on the space of this number, and the reply that thread 0 gets.
 type Step = (u8, Asked, Wanted);
 
-/// Whether the space has the number, and thread 0 gets the reply.
-fn answers(alloc: Global, plain: &mut Plain, step: Step) -> Result<bool, StepFault> {
+/// Whether the space has the number, and thread 0 gets the reply where so many page tables are in limbo.
+fn answers(alloc: Global, plain: &mut Plain, limbo: u32, step: Step) -> Result<bool, StepFault> {
     let (number, asked, wanted) = step;
     let Some(space) = SpaceId::new(number) else {
         return Ok(false);
     };
     let call = call_of(alloc, space, asked)?;
-    let reply = plain.step(alloc, 0, &call, 0)?;
-    Ok(is_wanted(&reply, wanted))
+    let reply = plain.step(alloc, 0, &call, limbo)?;
+    Ok(is_wanted(alloc, &reply, wanted)?)
 }
 
 /// How many of these steps are as they are told, up to the first that is not.
 fn right_steps(alloc: Global, plain: &mut Plain, steps: &[Step]) -> Result<usize, StepFault> {
     for (place, step) in steps.iter().enumerate() {
-        if !answers(alloc, plain, *step)? {
+        if !answers(alloc, plain, 0, *step)? {
             return Ok(place);
         }
     }
     Ok(steps.len())
+}
+
+/// What a new machine makes of these steps: how many are as they are told, up to the first that is not, and then the
+/// frames that are free and the page tables that are linked.
+fn outcome(
+    alloc: Global,
+    limits: Limits,
+    shelf: Shelf,
+    steps: &[Step],
+) -> Result<(usize, u32, u32), StepFault>
+    requires { IsWithinLimits limits }
+{
+    let mut plain = Plain::new(alloc, limits, shelf)?;
+    let right = right_steps(alloc, &mut plain, steps)?;
+    let accounts = plain.accounts(0);
+    Ok((right, accounts.frames_free, accounts.linked))
 }
 
 #[test]
@@ -191,34 +211,24 @@ fn replies(rt: HostRuntime) -> Result<(), Fail> {
         tables: 8,
         swap: 1,
     };
-    let mut plain = Plain::new(rt.alloc(), limits, Shelf::new(rt.alloc()))?;
-    assert_eq!(rt; right_steps(rt.alloc(), &mut plain, &STEPS)?, STEPS.len());
+    let seen = outcome(rt.alloc(), limits, Shelf::new(rt.alloc()), &STEPS)?;
+    assert_eq!(rt; seen, (STEPS.len(), 0, 4));
     Ok(())
 }
 
 #[test]
 fn page_tables_that_are_not_there(rt: HostRuntime) -> Result<(), Fail> {
+    const STEP: Step = (0, Asked::Map(1, READ_WRITE), Wanted::NoTables(1, 2, 3));
     let limits = Limits {
         frames: 1,
         tables: 3,
         swap: 0,
     };
     let mut plain = Plain::new(rt.alloc(), limits, Shelf::new(rt.alloc()))?;
-    let space = SpaceId::new(0).ok_or("0 is a space")?;
-    let call = call_of(rt.alloc(), space, Asked::Map(1, READ_WRITE))?;
-    assert_eq!(rt;
-        plain.step(rt.alloc(), 0, &call, 2)?,
-        Reply::NoTables {
-            linked: 1,
-            limbo: 2,
-            need: 3,
-        }
-    );
+    assert!(rt; answers(rt.alloc(), &mut plain, 2, STEP)?);
     assert_eq!(rt; plain.accounts(0).linked, 1);
-    match plain.step(rt.alloc(), 0, &call, 3) {
-        Err(fault) => assert_eq!(rt; fault, StepFault::NotLegal),
-        Ok(_) => assert!(rt; false, "four tables are more than three"),
-    }
+    let fault = answers(rt.alloc(), &mut plain, 3, STEP);
+    assert_eq!(rt; fault, Err(StepFault::NotLegal));
     Ok(())
 }
 
@@ -247,19 +257,18 @@ fn mapping_operations(rt: HostRuntime) -> Result<(), Fail> {
         tables: 8,
         swap: 1,
     };
-    let mut plain = Plain::new(rt.alloc(), limits, Shelf::new(rt.alloc()))?;
-    assert_eq!(rt; right_steps(rt.alloc(), &mut plain, &STEPS)?, STEPS.len());
-    let accounts = plain.accounts(0);
-    assert_eq!(rt; (accounts.frames_free, accounts.linked), (1, 3));
+    let seen = outcome(rt.alloc(), limits, Shelf::new(rt.alloc()), &STEPS)?;
+    assert_eq!(rt; seen, (STEPS.len(), 1, 3));
     Ok(())
 }
 
 #[test]
 fn file_page_and_past_its_end(rt: HostRuntime) -> Result<(), Fail> {
-    const STEPS: [Step; 3] = [
+    const STEPS: [Step; 4] = [
         (0, Asked::MapFile(65536, 8192), Wanted::At(65536)),
         (0, Asked::Load(69632), Wanted::Bus(69632)),
         (0, Asked::Load(69631), Wanted::Bus(69632)),
+        (0, Asked::Load(65540), Wanted::Bytes(*b"o\0")),
     ];
     let limits = Limits {
         frames: 2,
@@ -269,12 +278,8 @@ fn file_page_and_past_its_end(rt: HostRuntime) -> Result<(), Fail> {
     let mut shelf = Shelf::new(rt.alloc());
     let hello = Vec::from_slice(rt.alloc(), b"hello")?;
     shelf.add(hello)?;
-    let mut plain = Plain::new(rt.alloc(), limits, shelf)?;
-    assert_eq!(rt; right_steps(rt.alloc(), &mut plain, &STEPS)?, STEPS.len());
-    let space = SpaceId::new(0).ok_or("0 is a space")?;
-    let call = call_of(rt.alloc(), space, Asked::Load(65540))?;
-    let bytes = ByteList::of(rt.alloc(), b"o\0")?;
-    assert_eq!(rt; plain.step(rt.alloc(), 0, &call, 0)?, Reply::Bytes(bytes));
+    let seen = outcome(rt.alloc(), limits, shelf, &STEPS)?;
+    assert_eq!(rt; seen, (STEPS.len(), 1, 4));
     Ok(())
 }
 
@@ -298,10 +303,8 @@ fn fork_copies_on_write_and_the_last_owner_writes_in_place(rt: HostRuntime) -> R
         tables: 8,
         swap: 0,
     };
-    let mut plain = Plain::new(rt.alloc(), limits, Shelf::new(rt.alloc()))?;
-    assert_eq!(rt; right_steps(rt.alloc(), &mut plain, &STEPS)?, STEPS.len());
-    let accounts = plain.accounts(0);
-    assert_eq!(rt; (accounts.frames_free, accounts.linked), (0, 4));
+    let seen = outcome(rt.alloc(), limits, Shelf::new(rt.alloc()), &STEPS)?;
+    assert_eq!(rt; seen, (STEPS.len(), 0, 4));
     Ok(())
 }
 
@@ -309,7 +312,7 @@ fn fork_copies_on_write_and_the_last_owner_writes_in_place(rt: HostRuntime) -> R
 fn a_new_space_wants_page_tables(rt: HostRuntime) -> Result<(), Fail> {
     const STEPS: [Step; 5] = [
         (0, Asked::MapAt(AT, 4096), Wanted::At(AT)),
-        (0, Asked::Fork, Wanted::NoTables(4, 4)),
+        (0, Asked::Fork, Wanted::NoTables(4, 0, 4)),
         (0, Asked::Spawn, Wanted::Space(1)),
         (0, Asked::Exit, Wanted::Ok),
         (1, Asked::Fork, Wanted::Space(0)),
@@ -319,10 +322,19 @@ fn a_new_space_wants_page_tables(rt: HostRuntime) -> Result<(), Fail> {
         tables: 5,
         swap: 0,
     };
-    let mut plain = Plain::new(rt.alloc(), limits, Shelf::new(rt.alloc()))?;
-    assert_eq!(rt; right_steps(rt.alloc(), &mut plain, &STEPS)?, STEPS.len());
-    assert_eq!(rt; plain.accounts(0).linked, 2);
+    let seen = outcome(rt.alloc(), limits, Shelf::new(rt.alloc()), &STEPS)?;
+    assert_eq!(rt; seen, (STEPS.len(), 1, 2));
     Ok(())
+}
+
+/// Whether the spaces 1 to 63 are made in order.
+fn makes_spaces(alloc: Global, plain: &mut Plain) -> Result<bool, StepFault> {
+    for new in 1..64 {
+        if !answers(alloc, plain, 0, (0, Asked::Spawn, Wanted::Space(new)))? {
+            return Ok(false);
+        }
+    }
+    Ok(true)
 }
 
 #[test]
@@ -340,22 +352,14 @@ fn all_spaces_present(rt: HostRuntime) -> Result<(), Fail> {
         swap: 0,
     };
     let mut plain = Plain::new(rt.alloc(), limits, Shelf::new(rt.alloc()))?;
-    for new in 1..64 {
-        assert!(rt;
-            answers(
-                rt.alloc(),
-                &mut plain,
-                (0, Asked::Spawn, Wanted::Space(new))
-            )?
-        );
-    }
+    assert!(rt; makes_spaces(rt.alloc(), &mut plain)?);
     assert_eq!(rt; right_steps(rt.alloc(), &mut plain, &STEPS)?, STEPS.len());
     Ok(())
 }
 
 #[test]
 fn out_and_in_again(rt: HostRuntime) -> Result<(), Fail> {
-    const STEPS: [Step; 16] = [
+    const STEPS: [Step; 17] = [
         (0, Asked::MapAt(AT, 8192), Wanted::At(AT)),
         (0, Asked::Store(AT), Wanted::Ok),
         (0, Asked::Out(AT + 1, 4096), Wanted::Einval),
@@ -372,17 +376,14 @@ fn out_and_in_again(rt: HostRuntime) -> Result<(), Fail> {
         (0, Asked::Exit, Wanted::Ok),
         (1, Asked::Fork, Wanted::Space(0)),
         (1, Asked::Out(AT, 4096), Wanted::Moved(0)),
+        (0, Asked::Load(AT), Wanted::Bytes(*b"ab")),
     ];
     let limits = Limits {
         frames: 1,
         tables: 8,
         swap: 1,
     };
-    let mut plain = Plain::new(rt.alloc(), limits, Shelf::new(rt.alloc()))?;
-    assert_eq!(rt; right_steps(rt.alloc(), &mut plain, &STEPS)?, STEPS.len());
-    let space = SpaceId::new(0).ok_or("0 is a space")?;
-    let call = call_of(rt.alloc(), space, Asked::Load(AT))?;
-    let bytes = ByteList::of(rt.alloc(), b"ab")?;
-    assert_eq!(rt; plain.step(rt.alloc(), 0, &call, 0)?, Reply::Bytes(bytes));
+    let seen = outcome(rt.alloc(), limits, Shelf::new(rt.alloc()), &STEPS)?;
+    assert_eq!(rt; seen, (STEPS.len(), 0, 8));
     Ok(())
 }

@@ -9,6 +9,7 @@ ghost use Rattle.txn_plan.specs.Needs.{IsInSpan};
 ghost use Rattle.mm_model.specs.Placing.{tables_lack};
 ghost use Rattle.mm_model.specs.Transactions.{MayCommit, after_commit};
 
+use crate::lacking::lack;
 use crate::plain::Plain;
 use corten_base::{OpList, Range, Reply, SpaceId, TxnOp};
 use std::alloc::{AllocError, Global};
@@ -23,14 +24,7 @@ impl Plain {
     {
         let linked = self.tables.len() as u32;
         let need = tables_needed(&self.tables, space, ops);
-        if u64::from(linked) + need + u64::from(limbo) <= u64::from(self.limits.tables) {
-            return None;
-        }
-        Some(Reply::NoTables {
-            linked,
-            limbo,
-            need,
-        })
+        lack(self.limits.tables, linked, limbo, need)
     }
 
     /// The reply with which a transaction is refused, if it is. No page is made for it.

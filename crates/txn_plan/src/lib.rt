@@ -17,3 +17,4 @@ pub use committing::commit;
 pub use forgetting::forget_unmapped;
 pub use judge::first_undone;
 pub use need::tables_needed;
+pub use operation::is_mappable;

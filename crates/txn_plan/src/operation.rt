@@ -1,7 +1,7 @@
 //! One operation of a transaction.
 ghost use Rattle.std.specs.Prelude.{◌≡◌, ◌<◌, ◌^◌};
 ghost use Rattle.table_place.specs.Place.{is_page_range, pages_of};
-ghost use Rattle.page_map.specs.Mapping.{op_at, op_first, op_len, op_pages, is_backing, is_right, is_right_within};
+ghost use Rattle.page_map.specs.Mapping.{op_at, op_first, op_len, op_pages, is_backing, is_mappable, is_right, is_right_within};
 ghost use Rattle.txn_plan.specs.Covers.{presence_after, covered_by};
 
 use corten_base::{Backing, Range, TxnOp};
@@ -92,6 +92,13 @@ fn is_backing(shelf: &Shelf, backing: Backing) -> bool
     }
 }
 
+/// Whether a mapping may have a length in bytes, and what stands behind its pages.
+pub fn is_mappable(shelf: &Shelf, len: u64, backing: Backing) -> bool
+    ensures { result ≡ is_mappable 4 shelf.now len backing }
+{
+    len > 0 && len <= GREATEST_LEN && is_backing(shelf, backing)
+}
+
 /// Whether a range is one of user pages.
 fn is_page_range(at: u64, len: u64) -> bool
     ensures { result ≡ is_page_range 4 at len }
@@ -109,12 +116,7 @@ fn is_right(shelf: &Shelf, op: &TxnOp) -> bool
             len,
             backing,
             ..
-        } => {
-            *len > 0
-                && *len <= GREATEST_LEN
-                && is_backing(shelf, *backing)
-                && is_page_range(*at, *len)
-        }
+        } => is_mappable(shelf, *len, *backing) && is_page_range(*at, *len),
         TxnOp::Unmap { at, len } => is_page_range(*at, *len),
         TxnOp::Protect { at, len, .. } => is_page_range(*at, *len),
     }

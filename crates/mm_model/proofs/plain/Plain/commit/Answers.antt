@@ -1,7 +1,7 @@
 use Rattle.std.proofs.Common.{◌≡◌, ℕ, ◌+◌, ◌^◌, ◌<◌, List, Some, None, refl, sym, ap, subst, MutBor, ◌∙◌}
 use Rattle.std.specs.Prelude.{Option, IsSome, Result, Ok, Err, OnErr}
 use Rattle.std.specs.List.{All, flat_map}
-use Rattle.std.specs.Option.{unwrap_or, option_copied_mut}
+use Rattle.std.specs.Option.{option_copied_mut}
 use Rattle.std.specs.FinMap as map
 use Rattle.std.specs.FinSet as set
 use Rattle.page_map.specs.Effect.{above_op}

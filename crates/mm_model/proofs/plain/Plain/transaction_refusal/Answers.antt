@@ -1,10 +1,8 @@
-use Rattle.std.proofs.Common.{◌≡◌, ℕ, ◌/◌, true, None, Some, refl, sym, ap, subst, ◌∙◌}
-use Rattle.std.specs.Prelude.{Option}
+use Rattle.std.proofs.Common.{◌≡◌, ◌/◌, true, Some, refl, sym, ap, subst, ◌∙◌}
 use Rattle.std.specs.List.{All, flat_map}
 use Rattle.std.specs.Option.{option_copied}
 use Rattle.std.specs.FinMap as map
 use Rattle.corten_base.specs.declared.calls.Call.TheVariants as call
-use Rattle.corten_base.specs.declared.calls.Why.{Why}
 use Rattle.table_place.specs.Place.{is_page_range, pages_of}
 use Rattle.page_map.specs.Effect.{above_op}
 use Rattle.page_map.specs.Mapping.{is_right_within, undone}
