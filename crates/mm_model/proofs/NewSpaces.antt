@@ -2,22 +2,23 @@
 use Rattle.std.proofs.Common.{◌≡◌, ℕ, zero, suc, ◌+◌, ◌-◌, ◌<◌, ◌≤◌, Bool, true, false, cond, not, List, [], ◌∷◌, length, get_or, Bor, refl, sym, ap, subst, ◌∙◌, arith}
 use mathlib.Core.Bool.{true≢false}
 use mathlib.Core.Logic.{◌⊎◌, inl, inr}
-use Rattle.std.specs.Prelude.{Option, Some, None, IsSome, ◌||◌, ◌&&◌, is_some, nat_eq, nat_lt, slice_index}
+use Rattle.std.specs.Prelude.{Option, Some, None, IsSome, ◌||◌, ◌&&◌, is_some, nat_eq, slice_index}
 use Rattle.std.specs.Option.{option_map_or, option_copied, unwrap_or}
 use Rattle.std.specs.List.{count_by}
 use Rattle.std.specs.Ordering.{nat_cmp, eq_by_cmp}
 use Rattle.std.specs.Cmp.{nat_cmp_total, nat_eq_equiv, unsigned_tied}
-use Rattle.std.proofs.lemmas.Bool.{cases_lt, le-ltb, lt-ltb, or_cases, eqb-true}
+use Rattle.std.proofs.lemmas.Bool.{cases_lt, or_cases, eqb-true}
 use Rattle.std.specs.FinMap as fin
 use Rattle.std.specs.FinMap.{get, get-empty, get-insert}
 use Rattle.std.specs.FinSet as set
 use Rattle.std.specs.FinSet.{same_set, contains-difference, contains-union, contains-from_list, contains-empty}
+use Rattle.corten_base.specs.declared.calls.Reply.{Reply}
 use Rattle.corten_base.specs.declared.calls.Reply.TheVariants as reply
 use Rattle.table_place.specs.declared.Place.{Place}
 use Rattle.table_place.specs.Place.{place_cmp, root, above}
 use Rattle.page_map.specs.declared.cell.Cell.{Cell}
 use Rattle.page_map.specs.Cell.{frame_of, slot_of}
-use Rattle.page_map.specs.State.{State, AddressSpace, IsConsistent, linked, space_at, cell_at, carries, owners}
+use Rattle.page_map.specs.State.{State, AddressSpace, IsConsistent, space_at, cell_at, carries, owners}
 use Rattle.page_map.specs.Tables.{Tables, need}
 use Rattle.page_map.proofs.Places.{place_total, place_exact}
 use Rattle.page_map.proofs.Steps.{not_none}
@@ -142,18 +143,6 @@ alone st new cells none wanted ok absent e put =
     only : (s : Tables) → set.union set.empty s ≡ s
     only s = same_set place_total place_exact _ _ (λ q. contains-union place_total set.empty s q ∙ ap (λ b. b || set.contains s q) (contains-empty place_cmp q))
 
--- too few, or enough
-module _ (st : State) (wanted : List Place) (limbo count : ℕ) (is_count : count ≡ need wanted st.tables) where
-  pub lacking : st.limits.tables < linked st + count + limbo → tables_lack st wanted limbo ≡ Some (reply.NoTables (linked st) limbo count)
-  lacking h =
-      (λ i. cond (nat_lt st.limits.tables (linked st + sym is_count i + limbo)) (Some (reply.NoTables (linked st) limbo (sym is_count i))) None)
-      ∙ ap (λ b. cond b (Some (reply.NoTables (linked st) limbo count)) None) (lt-ltb st.limits.tables (linked st + count + limbo) h)
-
-  pub not_lacking : linked st + count + limbo ≤ st.limits.tables → tables_lack st wanted limbo ≡ None
-  not_lacking h =
-      (λ i. cond (nat_lt st.limits.tables (linked st + sym is_count i + limbo)) (Some (reply.NoTables (linked st) limbo (sym is_count i))) None)
-      ∙ ap (λ b. cond b (Some (reply.NoTables (linked st) limbo count)) None) (le-ltb st.limits.tables (linked st + count + limbo) h)
-
 -- ---- what the machine keeps
 
 pub made_sound : (st : State) (new : ℕ) (cells : AddressSpace) (limbo : ℕ) (frames slots fronts frames' slots' : List ℕ) → MayMake st new cells limbo → IsSound st frames slots fronts →
@@ -210,31 +199,25 @@ module _ (st : State) (new : ℕ) (cells : AddressSpace) (limbo : ℕ) (frames s
     pub no_fewer : set.len st.tables ≤ set.len tables
     no_fewer = omega (arith, grows)
 
-    need_is : set.len tables - set.len st.tables ≡ need (new_tables new cells) st.tables
+    pub need_is : set.len tables - set.len st.tables ≡ need (new_tables new cells) st.tables
     need_is = omega (arith, grows)
 
     pub back : (left : Tables) → left ≡ set.retain tables (is_elsewhere new) → left ≡ st.tables
     back left is = is ∙ taken_out st new cells tables sound.state may.absent put
 
-    pub too_few : linked st + limbo ≤ st.limits.tables → st.limits.tables - set.len st.tables - limbo < set.len tables - set.len st.tables → (left : Tables) → left ≡ set.retain tables (is_elsewhere new) →
-        (reply.NoTables (set.len st.tables) limbo (set.len tables - set.len st.tables), record st { tables = left }) ≡ made st new cells limbo
-    too_few legal h left is =
-        (λ i. (reply.NoTables (set.len st.tables) limbo (set.len tables - set.len st.tables), record st { tables = back left is i }))
-        ∙ sym (ap (λ o. made_unless o st new cells) (lacking st (new_tables new cells) limbo (set.len tables - set.len st.tables) need_is (omega (arith, h, legal))))
+    pub too_few : (r : Reply) → tables_lack st (new_tables new cells) limbo ≡ Some r → (left : Tables) → left ≡ set.retain tables (is_elsewhere new) → (r, record st { tables = left }) ≡ made st new cells limbo
+    too_few r lacks left is = (λ i. (r, record st { tables = back left is i })) ∙ sym (ap (λ o. made_unless o st new cells) lacks)
 
-    pub enough : linked st + limbo ≤ st.limits.tables → set.len tables - set.len st.tables ≤ st.limits.tables - set.len st.tables - limbo → tables_lack st (new_tables new cells) limbo ≡ None
-    enough legal h = not_lacking st (new_tables new cells) limbo (set.len tables - set.len st.tables) need_is (omega (arith, h, legal))
-
-    pub is_made : linked st + limbo ≤ st.limits.tables → set.len tables - set.len st.tables ≤ st.limits.tables - set.len st.tables - limbo → (spaces : fin.FinMap nat_cmp AddressSpace) → spaces ≡ fin.insert st.spaces new cells →
+    pub is_made : tables_lack st (new_tables new cells) limbo ≡ None → (spaces : fin.FinMap nat_cmp AddressSpace) → spaces ≡ fin.insert st.spaces new cells →
         (reply.Space new, record st { spaces = spaces; tables = tables }) ≡ made st new cells limbo
-    is_made legal h spaces is =
-        (λ i. (reply.Space new, record st { spaces = is i; tables = put i })) ∙ sym (ap (λ o. made_unless o st new cells) (enough legal h))
+    is_made enough spaces is =
+        (λ i. (reply.Space new, record st { spaces = is i; tables = put i })) ∙ sym (ap (λ o. made_unless o st new cells) enough)
 
-    pub made_is_sound : linked st + limbo ≤ st.limits.tables → set.len tables - set.len st.tables ≤ st.limits.tables - set.len st.tables - limbo → (spaces : fin.FinMap nat_cmp AddressSpace) → spaces ≡ fin.insert st.spaces new cells →
+    pub made_is_sound : tables_lack st (new_tables new cells) limbo ≡ None → (spaces : fin.FinMap nat_cmp AddressSpace) → spaces ≡ fin.insert st.spaces new cells →
         (frames' slots' : List ℕ) → JoinsAll frame_of frames frames' cells → JoinsAll slot_of slots slots' cells → IsSound (record st { spaces = spaces; tables = tables }) frames' slots' fronts
-    made_is_sound legal h spaces is frames' slots' join_frames join_slots =
+    made_is_sound enough spaces is frames' slots' join_frames join_slots =
         subst (λ (n : State). IsSound n frames' slots' fronts) (sym (λ i. record st { spaces = is i; tables = put i }))
-        (made_sound st new cells limbo frames slots fronts frames' slots' may sound (enough legal h) join_frames join_slots)
+        (made_sound st new cells limbo frames slots fronts frames' slots' may sound enough join_frames join_slots)
 
 -- ---- what was just put in
 

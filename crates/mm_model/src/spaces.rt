@@ -83,13 +83,9 @@ impl Plain {
         let linked = self.tables.len() as u32;
         cells.add_tables(alloc, &mut self.tables, new)?;
         let need = self.tables.len() as u64 - u64::from(linked);
-        if need > u64::from(self.limits.tables - linked - limbo) {
+        if let Some(refused) = lack(self.limits.tables, linked, limbo, need) {
             self.tables.remove_space(new);
-            return Ok(Reply::NoTables {
-                linked,
-                limbo,
-                need,
-            });
+            return Ok(refused);
         }
         match put_in(
             &mut self.spaces,

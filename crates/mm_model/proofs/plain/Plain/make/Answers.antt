@@ -1,13 +1,13 @@
-use Rattle.std.proofs.Common.{◌≡◌, ℕ, ◌+◌, ◌-◌, ◌≤◌, List, sym, ap, subst, ◌∙◌, arith}
-use Rattle.std.specs.FinSet as set
-use Rattle.corten_base.specs.declared.calls.Reply.TheVariants as reply
-use Rattle.page_map.specs.State.{State, linked}
-use Rattle.page_map.specs.Tables.{Tables}
+use Rattle.std.proofs.Common.{◌≡◌, ℕ, ◌-◌, List, sym, ap, subst, ◌∙◌, arith}
+use Rattle.page_map.specs.State.{State}
 use Rattle.mm_model.specs.Plain.{IsSound}
 use Rattle.mm_model.specs.NewSpaces.{MayMake, made}
-use Rattle.mm_model.proofs.NewSpaces.{frames_in, slots_in, frames_fit, slots_fit, no_fewer, back, too_few, is_made, made_is_sound}
+use Rattle.mm_model.specs.Placing.{lack, tables_lack}
+use Rattle.plain_spaces.specs.Copies.{new_tables}
+use Rattle.page_map.specs.Tables.{need}
+use Rattle.mm_model.proofs.NewSpaces.{frames_in, slots_in, frames_fit, slots_fit, no_fewer, need_is, back, too_few, is_made, made_is_sound}
 use Rattle.mm_model.proofs.plain.Plain.make.Goals as goal
-use Rattle.mm_model.proofs.plain.Plain.make.Goals.{After-len-linked}
+use Rattle.mm_model.proofs.plain.Plain.make.Goals.{After-len-linked, After-lack}
 
 -- the state that the machine had
 abbrev before : After-len-linked → State
@@ -16,33 +16,32 @@ before c = record { spaces = c.self.inside.spaces; tables = c.self.inside.tables
 abbrev may : (c : After-len-linked) → MayMake (before c) c.args.new c.args.cells c.args.limbo
 may c = subst (λ st. MayMake st c.args.new c.args.cells c.args.limbo) (sym c.self.view_is) c.requires.may
 
-abbrev legal : (c : After-len-linked) → linked (before c) + c.args.limbo ≤ c.self.inside.limits.tables
-legal c = subst (λ (st : State). linked st + c.args.limbo ≤ st.limits.tables) (sym c.self.view_is) c.requires.legal
-
 pub overflow_sub-need : goal.overflow_sub-need
 overflow_sub-need c =
     let at = (goal.at.overflow_sub-need c).After-len-linked in
     omega (arith, no_fewer (before at) c.args.new c.args.cells c.args.limbo _ _ _ (may at) c.self.invariant c.add_tables.new.tables c.in_ok-add_tables.ensures.ok, c.len.ensures, c.from.ensures, c.len-linked.ensures)
 
-pub invariant_of-self-then-need-from : goal.invariant_of-self-then-need-from
-invariant_of-self-then-need-from c =
-    let at = (goal.at.invariant_of-self-then-need-from c).After-len-linked in
+pub invariant_of-self-in-Some : goal.invariant_of-self-in-Some
+invariant_of-self-in-Some c =
+    let at = (goal.at.invariant_of-self-in-Some c).After-len-linked in
     subst (λ tables. IsSound (record (before at) { tables = tables }) c.self.inside.frames c.self.inside.slots c.self.inside.fronts)
     (sym (back (before at) c.args.new c.args.cells c.args.limbo _ _ _ (may at) c.self.invariant c.add_tables.new.tables c.in_ok-add_tables.ensures.ok c.remove_space.new.self c.remove_space.ensures)) c.self.invariant
 
--- the counts as the machine has them
-counted : (st : State) (new limbo : ℕ) (cells : _) (tables left : Tables) (first later all : ℕ) → first ≡ set.len st.tables → later ≡ set.len tables → all ≡ first →
-    (reply.NoTables (set.len st.tables) limbo (set.len tables - set.len st.tables), record st { tables = left }) ≡ made st new cells limbo →
-    (reply.NoTables first limbo (later - all), record st { tables = left }) ≡ made st new cells limbo
-counted st new limbo cells tables left first later all a b e h = (λ i. (reply.NoTables (a i) limbo (b i - (e ∙ a) i), record st { tables = left })) ∙ h
+-- the page tables that are missing, as the machine counted them
+abbrev lacks : (c : After-lack) → tables_lack (record { spaces = c.self.inside.spaces; tables = c.self.inside.tables; limits = c.self.inside.limits; files = c.self.inside.shelf }) (new_tables c.args.new c.args.cells) c.args.limbo ≡ c.lack.result
+lacks c =
+    let st : State = record { spaces = c.self.inside.spaces; tables = c.self.inside.tables; limits = c.self.inside.limits; files = c.self.inside.shelf } in
+    let may : MayMake st c.args.new c.args.cells c.args.limbo = subst (λ st. MayMake st c.args.new c.args.cells c.args.limbo) (sym c.self.view_is) c.requires.may in
+    let is : c.len.result - c.from.result ≡ need (new_tables c.args.new c.args.cells) c.self.inside.tables =
+    omega (arith, need_is st c.args.new c.args.cells c.args.limbo _ _ _ may c.self.invariant c.add_tables.new.tables c.in_ok-add_tables.ensures.ok, c.len.ensures, c.from.ensures, c.len-linked.ensures) in
+    sym (c.lack.ensures ∙ (λ i. lack c.self.inside.limits.tables (c.len-linked.ensures i) c.args.limbo (is i)))
 
-pub returns-then-need-from-clause-ok : goal.returns-then-need-from-clause-ok
-returns-then-need-from-clause-ok c =
-    let at = (goal.at.returns-then-need-from-clause-ok c).After-len-linked in
-    let st = before at in
-    counted st c.args.new c.args.limbo c.args.cells c.add_tables.new.tables c.remove_space.new.self c.len-linked.result c.len.result c.from.result c.len-linked.ensures c.len.ensures c.from.ensures
-    (too_few st c.args.new c.args.cells c.args.limbo _ _ _ (may at) c.self.invariant c.add_tables.new.tables c.in_ok-add_tables.ensures.ok (legal at)
-    (omega (arith, c.if-need-from.true, c.from-2.ensures, c.len.ensures, c.from.ensures, c.len-linked.ensures)) c.remove_space.new.self c.remove_space.ensures)
+pub returns-in-Some-clause-ok : goal.returns-in-Some-clause-ok
+returns-in-Some-clause-ok c =
+    let at = goal.at.returns-in-Some-clause-ok c in
+    let st = before at.After-len-linked in
+    too_few st c.args.new c.args.cells c.args.limbo _ _ _ (may at.After-len-linked) c.self.invariant c.add_tables.new.tables c.in_ok-add_tables.ensures.ok
+    c.in-Some.refused (lacks at.After-lack ∙ c.in-Some.is) c.remove_space.new.self c.remove_space.ensures
     ∙ ap (λ st. made st c.args.new c.args.cells c.args.limbo) c.self.view_is
 
 pub put_in-requires-clause-frames : goal.put_in-requires-clause-frames
@@ -67,15 +66,15 @@ put_in-requires-clause-room_for_slots c =
 
 pub invariant_of-self-in-Ok : goal.invariant_of-self-in-Ok
 invariant_of-self-in-Ok c =
-    let at = (goal.at.invariant_of-self-in-Ok c).After-len-linked in
-    made_is_sound (before at) c.args.new c.args.cells c.args.limbo _ _ _ (may at) c.self.invariant c.add_tables.new.tables c.in_ok-add_tables.ensures.ok (legal at)
-    (omega (arith, c.if-need-from.false, c.from-2.ensures, c.len.ensures, c.from.ensures, c.len-linked.ensures)) c.put_in.new.spaces c.in-Ok.ensures.spaces c.put_in.new.frames c.put_in.new.slots c.in-Ok.ensures.frames c.in-Ok.ensures.slots
+    let all = goal.at.invariant_of-self-in-Ok c in
+    let at = all.After-len-linked in
+    made_is_sound (before at) c.args.new c.args.cells c.args.limbo _ _ _ (may at) c.self.invariant c.add_tables.new.tables c.in_ok-add_tables.ensures.ok (lacks all.After-lack ∙ c.in_default.is) c.put_in.new.spaces c.in-Ok.ensures.spaces c.put_in.new.frames c.put_in.new.slots c.in-Ok.ensures.frames c.in-Ok.ensures.slots
 
 pub returns-in-Ok-clause-ok : goal.returns-in-Ok-clause-ok
 returns-in-Ok-clause-ok c =
-    let at = (goal.at.returns-in-Ok-clause-ok c).After-len-linked in
-    is_made (before at) c.args.new c.args.cells c.args.limbo _ _ _ (may at) c.self.invariant c.add_tables.new.tables c.in_ok-add_tables.ensures.ok (legal at)
-    (omega (arith, c.if-need-from.false, c.from-2.ensures, c.len.ensures, c.from.ensures, c.len-linked.ensures)) c.put_in.new.spaces c.in-Ok.ensures.spaces
+    let all = goal.at.returns-in-Ok-clause-ok c in
+    let at = all.After-len-linked in
+    is_made (before at) c.args.new c.args.cells c.args.limbo _ _ _ (may at) c.self.invariant c.add_tables.new.tables c.in_ok-add_tables.ensures.ok (lacks all.After-lack ∙ c.in_default.is) c.put_in.new.spaces c.in-Ok.ensures.spaces
     ∙ ap (λ st. made st c.args.new c.args.cells c.args.limbo) c.self.view_is
 
 -- nothing has changed
