@@ -67,6 +67,7 @@ fn slots_of<P: Plan>(
     Ok(slots)
 }
 
+#[tactic(auto, unfolding(crate::specs::Passes::model_of, crate::specs::Passes::iron_model))]
 impl<P: Plan> Iron<P> {
     // The first of the seat's passes gets a seat of its own.
     fn cut(
@@ -95,6 +96,7 @@ impl<P: Plan> Iron<P> {
     }
 }
 
+#[tactic(auto, unfolding(crate::specs::Passes::model_of, crate::specs::Passes::iron_model))]
 impl<P: Plan> Iron<P> {
     // A seat and a kit for each pass.
     fn deal(
@@ -121,6 +123,7 @@ impl<P: Plan> Iron<P> {
     }
 }
 
+#[tactic(auto, unfolding(crate::specs::Passes::model_of, crate::specs::Passes::iron_model))]
 impl<P: Plan> Iron<P> {
     /// A table at its start, and the passes in the order of their numbers: row 0 is the directory, row 1 is the root of space 0,
     /// and all others are free. Each pass is outside and holds nothing.

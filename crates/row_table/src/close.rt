@@ -55,6 +55,7 @@ fn has_all<P: Plan>(passes: &[Pass<P>], count: u8) -> bool
     true
 }
 
+#[tactic(auto, unfolding(crate::specs::Passes::model_of, crate::specs::Passes::iron_model))]
 impl<P: Plan> Iron<P> {
     // One seat that knows all that the passes know.
     fn gather(&self, passes: Vec<Pass<P>>) -> Seat<Slot<P>, Views<P>>
@@ -150,6 +151,7 @@ pub enum IronClose<P: Plan> {
     NotAll(Iron<P>, Vec<Pass<P>>),
 }
 
+#[tactic(auto, unfolding(crate::specs::Passes::model_of, crate::specs::Passes::iron_model))]
 impl<P: Plan> Iron<P> {
     // The words and the values of a table whose passes are all in one seat.
     fn finish(self, seat: Seat<Slot<P>, Views<P>>) -> Parts<P>
@@ -183,6 +185,7 @@ impl<P: Plan> Iron<P> {
     }
 }
 
+#[tactic(auto, unfolding(crate::specs::Passes::model_of, crate::specs::Passes::iron_model))]
 impl<P: Plan> Iron<P> {
     /// The words, the rows and the book of the table, if all of its passes are given back. They are outside and have nothing.
     pub fn close(self, passes: Vec<Pass<P>>) -> IronClose<P>

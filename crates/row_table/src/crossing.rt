@@ -39,6 +39,7 @@ impl<R: Drop, B: Drop, E> Play<Option<Content<R, B>>, LinkedList<PassView<R, B, 
     ghost then = { λ _. CrossTells left };
 }
 
+#[tactic(auto, unfolding(crate::specs::Passes::model_of, crate::specs::Passes::iron_model))]
 impl<P: Plan> Pass<P> {
     /// Goes inside: the pass stands on row 0. A worn epoch word counts no more, and then nothing changes.
     pub fn enter(&mut self, iron: &Iron<P>) -> Result<(), Worn>

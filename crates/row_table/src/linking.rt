@@ -26,6 +26,7 @@ impl<R: Drop, B: Drop, E> Play<Option<Content<R, B>>, LinkedList<PassView<R, B, 
     ghost then = { CutTells };
 }
 
+#[tactic(auto, unfolding(crate::specs::Passes::model_of, crate::specs::Passes::iron_model))]
 impl<P: Plan> Pass<P> {
     /// Writes an entry of a row that the pass holds. A row that the word links is in the tree from then on.
     pub fn set_entry(&mut self, iron: &Iron<P>, row: u32, index: u32, word: u64)

@@ -18,6 +18,7 @@ impl<R: Drop, B: Drop, E> Play<Option<Content<R, B>>, LinkedList<PassView<R, B, 
     ghost then = { LookTells };
 }
 
+#[tactic(auto, unfolding(crate::specs::Passes::model_of, crate::specs::Passes::iron_model))]
 impl<P: Plan> Pass<P> {
     /// Reads an entry word of a row that the pass stands on or holds. A link of the row that it stands on leads it to the linked row.
     pub fn look(&mut self, iron: &Iron<P>, row: u32, index: u32) -> u64

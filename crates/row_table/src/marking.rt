@@ -21,6 +21,7 @@ impl<R: Drop, B: Drop, E> Play<Option<Content<R, B>>, LinkedList<PassView<R, B, 
     ghost then = { ReleaseTells };
 }
 
+#[tactic(auto, unfolding(crate::specs::Passes::model_of, crate::specs::Passes::iron_model))]
 impl<P: Plan> Pass<P> {
     /// Lets a row go that the pass unlinked, with a blank content. Nobody may take it from then on.
     pub fn mark_stale(&mut self, iron: &Iron<P>, row: u32, content: P::Row)

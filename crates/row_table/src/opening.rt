@@ -48,6 +48,7 @@ fn position_word(place: Place) -> u64
     u64::from(place.level) + u64::from(place.space) * 8 + place.prefix * 512
 }
 
+#[tactic(auto, unfolding(crate::specs::Passes::model_of, crate::specs::Passes::iron_model))]
 impl<P: Plan> Pass<P> {
     /// Writes the position and the generation of a row that the pass was granted. The row can be opened then.
     pub fn set_up(&mut self, iron: &Iron<P>, row: u32, place: Place, generation: u64)

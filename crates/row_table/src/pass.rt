@@ -73,6 +73,7 @@ pub struct Pass<P: Plan> {
     ghost room: { rows + 1 ≤ deque_capacity stack },
 }
 
+#[tactic(auto, unfolding(crate::specs::Passes::model_of, crate::specs::Passes::iron_model))]
 impl<P: Plan> Pass<P> {
     ghost use Rattle.row_table.specs.Passes.{view_of, kit_of, table_of, IsPassOf};
 
@@ -119,6 +120,7 @@ impl<P: Plan> Pass<P> {
     }
 }
 
+#[tactic(auto, unfolding(crate::specs::Passes::model_of, crate::specs::Passes::iron_model))]
 impl<P: Plan> Pass<P> {
     ghost use Rattle.row_table.specs.Passes.{view_of, kit_of, table_of, layout_of, IsPassOf};
 
@@ -161,6 +163,7 @@ impl<P: Plan> Pass<P> {
     }
 }
 
+#[tactic(auto, unfolding(crate::specs::Passes::model_of, crate::specs::Passes::iron_model))]
 impl<P: Plan> Pass<P> {
     ghost use Rattle.row_table.specs.Passes.{view_of, number_of, kit_of, table_of};
 

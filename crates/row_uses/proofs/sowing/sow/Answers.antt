@@ -1,5 +1,5 @@
 use Rattle.std.proofs.Common.{ap}
-use Rattle.row_table.specs.Passes.{view_of}
+use Rattle.row_table.specs.Passes.{view_of, layout_of}
 use Rattle.row_uses.specs.Sown.{View}
 use Rattle.row_uses.proofs.SownSteps.{kept_waiting, kept_undrawn, may_give_back, may_prepare, may_link, may_release_linked, small, child_fits, is_sown}
 use Rattle.row_uses.proofs.sowing.sow.Goals as goal
@@ -15,7 +15,7 @@ give-requires-clause-may c κs = let t = c.in-Got.ensures.turns in record {
 }
 
 pub returns-in_default-clause-sows : goal.returns-in_default-clause-sows
-returns-in_default-clause-sows c = let t = c.in-Got.ensures.turns in λ may. kept_undrawn c.args.iron.now.layout _ _ _ _ _ may.known _ may.alone t.0 t.1 c.give.ensures.gives c.in_default.ensures
+returns-in_default-clause-sows c = let t = c.in-Got.ensures.turns in λ may. kept_undrawn (layout_of c.args.iron.now) _ _ _ _ _ may.known _ may.alone t.0 t.1 c.give.ensures.gives c.in_default.ensures
 
 pub set_up-requires-clause-guard : goal.set_up-requires-clause-guard
 set_up-requires-clause-guard c κs = let t = c.in-Got.ensures.turns in may_prepare _ _ _ _ _ _ _ _ _ _ _ c.requires.may t.0 c.layout.ensures.sizes.1 t.1 c.in-Some.ensures c.give.ensures.gives

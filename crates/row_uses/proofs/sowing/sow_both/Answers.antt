@@ -1,5 +1,5 @@
 use Rattle.std.proofs.Common.{sym, ap, refl}
-use Rattle.row_table.specs.Passes.{view_of}
+use Rattle.row_table.specs.Passes.{view_of, layout_of}
 use Rattle.row_uses.specs.Sown.{View}
 use Rattle.row_uses.proofs.SownSteps.{kept_waiting, kept_undrawn}
 use Rattle.row_uses.proofs.SownPair.{may_give_both, small_a, small_b, few_a, two_rows, not_linked, may_prepare_a, may_prepare_b, may_link_a, may_release_a, fits_a, may_link_b, may_release_b, fits_b, are_sown}
@@ -16,7 +16,7 @@ give-requires-clause-may c κs = let t = c.in-Got.ensures.turns in record {
 }
 
 pub returns-in_default-clause-sows : goal.returns-in_default-clause-sows
-returns-in_default-clause-sows c = let t = c.in-Got.ensures.turns in λ may. kept_undrawn c.args.iron.now.layout _ _ _ _ _ may.one.known _ may.one.alone t.0 t.1 c.give.ensures.gives c.in_default.ensures
+returns-in_default-clause-sows c = let t = c.in-Got.ensures.turns in λ may. kept_undrawn (layout_of c.args.iron.now) _ _ _ _ _ may.one.known _ may.one.alone t.0 t.1 c.give.ensures.gives c.in_default.ensures
 
 pub set_up-requires-clause-guard : goal.set_up-requires-clause-guard
 set_up-requires-clause-guard c κs = let t = c.in-Got.ensures.turns in

@@ -7,9 +7,11 @@ use Rattle.row_table.specs.Crossings.{entered}
 use Rattle.row_table.proofs.Crossings.{reads_at, enters_at}
 use Rattle.row_table.proofs.Sizes.{same_layout, same_sizes, sized_enter}
 use Rattle.row_table.proofs.Told.{Kept, kept_by, view_of}
+use Rattle.row_table.specs.Passes.{model_of, iron_model}
 use Rattle.row_table.proofs.pass.Pass.enter.Goals as goal
 
 pub load-found-requires : goal.load-found-requires
+unfolding model_of iron_model
 load-found-requires g c = (
   search rules,
   let wide = c.args.iron.now.sized.0 in let at = c.epoch-word.ensures in let less = (same_sizes c.args.self.now.sized _ c.args.iron.now.layout c.requires.table c.args.iron.now.sized.0 c.args.iron.now.sized.1).1 in omega arith,
@@ -17,6 +19,7 @@ load-found-requires g c = (
 )
 
 pub fetch_add-requires : goal.fetch_add-requires
+unfolding model_of iron_model
 fetch_add-requires g c =
     let p = c.args.self.now in let t = c.load-found.ensures.2 p.number p.one.1 in let other = c.if-found-eq-LAST.false in let same = ap (λ (y : Seat g.row.P-Row.Denot g.row.P-Book.Denot g.row.P-Entry.Denot). (view y).epoch) t.2 in (
       search rules,
@@ -26,6 +29,7 @@ fetch_add-requires g c =
     )
 
 pub invariant_of-self : goal.invariant_of-self
+unfolding model_of iron_model
 invariant_of-self g c =
     let p = c.args.self.now in let t = c.load-found.ensures.2 p.number p.one.1 in
     let k : Kept p.number p.rows c.load-found.new.seat.table_id c.load-found.new.seat.me p.stack.items
@@ -42,6 +46,7 @@ invariant_of-self g c =
     }
 
 pub invariant_of-self-2 : goal.invariant_of-self-2
+unfolding model_of iron_model
 invariant_of-self-2 g c =
     let p = c.args.self.now in let t = c.load-found.ensures.2 p.number p.one.1 in let some_rows = (same_sizes p.sized _ c.args.iron.now.layout c.requires.table c.args.iron.now.sized.0 c.args.iron.now.sized.1).0 in let two = c.args.iron.now.sizes in
     let w : PassView g.row.P-Row.Denot g.row.P-Book.Denot g.row.P-Entry.Denot = entered (view p.seat.me) in
@@ -59,6 +64,7 @@ invariant_of-self-2 g c =
     }
 
 pub returns-clause-enters : goal.returns-clause-enters
+unfolding model_of iron_model
 returns-clause-enters g c =
     let p = c.args.self.now in let t = c.load-found.ensures.2 p.number p.one.1 in let other = c.if-found-eq-LAST.false in (
       (let found = t.0 in let most = t.1 in omega arith),
@@ -66,13 +72,17 @@ returns-clause-enters g c =
     )
 
 pub returns-then-found-eq-LAST-clause-layout : goal.returns-then-found-eq-LAST-clause-layout
+unfolding model_of iron_model
 returns-then-found-eq-LAST-clause-layout g c = same_layout c.args.self.now.sized _ c.args.iron.now.layout c.requires.table c.args.iron.now.sized.0 c.args.iron.now.sized.1
 
 pub returns-clause-layout : goal.returns-clause-layout
+unfolding model_of iron_model
 returns-clause-layout g c = same_layout c.args.self.now.sized _ c.args.iron.now.layout c.requires.table c.args.iron.now.sized.0 c.args.iron.now.sized.1
 
 pub returns-then-found-eq-LAST-clause-right : goal.returns-then-found-eq-LAST-clause-right
+unfolding model_of iron_model
 returns-then-found-eq-LAST-clause-right g c = (c.load-found.ensures.2 c.args.self.now.number c.args.self.now.one.1).3
 
 pub returns-clause-right : goal.returns-clause-right
+unfolding model_of iron_model
 returns-clause-right g c = (c.load-found.ensures.2 c.args.self.now.number c.args.self.now.one.1).3

@@ -10,12 +10,15 @@ use Rattle.row_table.specs.Books.{gave, MayGive}
 use Rattle.row_table.proofs.Turns.{gives_at}
 use Rattle.row_table.proofs.Told.{Kept, kept_by, one_of, view_of, front_of, put_in, carried_book, carries_no_book}
 use Rattle.row_table.proofs.Sizes.{sized_gave}
+use Rattle.row_table.specs.Passes.{model_of, iron_model}
 use Rattle.row_table.proofs.pass.Pass.give.Goals as goal
 
 pub bring-requires-clause-there : goal.bring-requires-clause-there
+unfolding model_of iron_model
 bring-requires-clause-there g c = let p = c.args.self.now in carried_book p.rows (view p.seat.me).core.held p.stack.items (view p.seat.me).core.has_book c.requires.has p.carries
 
 pub put_book-requires-clause-front : goal.put_book-requires-clause-front
+unfolding model_of iron_model
 put_book-requires-clause-front g c κs within =
     let p = c.args.self.now in let rows : ℕ = c.args.iron.now.layout.rows in let more : List ℕ = c.bring.ensures.front.0 in
     let slots = sym p.sized.slots ∙ (ap (λ (x : _). x.slots) c.requires.table ∙ c.args.iron.now.sized.1) in let same_rows : p.rows ≡ rows = omega arith in
@@ -23,6 +26,7 @@ put_book-requires-clause-front g c κs within =
     front ∙ ap (λ (l : List (ℕ × Slot g.row.P-Row.Denot g.row.P-Book.Denot)). (rows, None) ∷ rest l) (sym front)
 
 pub store-requires : goal.store-requires
+unfolding model_of iron_model
 store-requires g c =
     let p = c.args.self.now in let rows : ℕ = c.args.iron.now.layout.rows in let more : List ℕ = c.bring.ensures.front.0 in
     let slots = sym p.sized.slots ∙ (ap (λ (x : _). x.slots) c.requires.table ∙ c.args.iron.now.sized.1) in let same_rows : p.rows ≡ rows = omega arith in
@@ -40,6 +44,7 @@ store-requires g c =
     )
 
 pub invariant_of-self : goal.invariant_of-self
+unfolding model_of iron_model
 invariant_of-self g c =
     let p = c.args.self.now in let rows : ℕ = c.args.iron.now.layout.rows in let more : List ℕ = c.bring.ensures.front.0 in
     let slots = sym p.sized.slots ∙ (ap (λ (x : _). x.slots) c.requires.table ∙ c.args.iron.now.sized.1) in let same_rows : p.rows ≡ rows = omega arith in
@@ -66,6 +71,7 @@ invariant_of-self g c =
     }
 
 pub returns-clause-gives : goal.returns-clause-gives
+unfolding model_of iron_model
 returns-clause-gives g c =
     let p = c.args.self.now in let rows : ℕ = c.args.iron.now.layout.rows in let more : List ℕ = c.bring.ensures.front.0 in
     let slots = sym p.sized.slots ∙ (ap (λ (x : _). x.slots) c.requires.table ∙ c.args.iron.now.sized.1) in let same_rows : p.rows ≡ rows = omega arith in
@@ -79,3 +85,7 @@ returns-clause-gives g c =
       grants = record { generation = t.0.generation; low = t.0.low; there = λ r i. subst (λ (v : PassView g.row.P-Row.Denot g.row.P-Book.Denot g.row.P-Entry.Denot). r < v.layout.rows) sees (t.0.there r i) };
       after = view_of _ _ _ t.1 ∙ ap (λ (v : PassView g.row.P-Row.Denot g.row.P-Book.Denot g.row.P-Entry.Denot). gave g.P.Plan.meaning v may.old c.args.book t.0.generation) sees;
     }
+
+pub put_book-requires-clause-table : goal.put_book-requires-clause-table
+unfolding model_of iron_model
+put_book-requires-clause-table g c κs within = c.bring.ensures.same.1 ∙ c.requires.table

@@ -7,9 +7,11 @@ use Rattle.row_table.specs.Crossings.{left}
 use Rattle.row_table.proofs.Crossings.{leaves_at}
 use Rattle.row_table.proofs.Told.{Kept, kept_by, view_of}
 use Rattle.row_table.proofs.Sizes.{same_sizes, sized_leave}
+use Rattle.row_table.specs.Passes.{model_of, iron_model}
 use Rattle.row_table.proofs.pass.Pass.leave.Goals as goal
 
 pub fetch_add-requires : goal.fetch_add-requires
+unfolding model_of iron_model
 fetch_add-requires g c = (
   search rules,
   let wide = c.args.iron.now.sized.0 in let at = c.epoch-word.ensures in let less = (same_sizes c.args.self.now.sized _ c.args.iron.now.layout c.requires.table c.args.iron.now.sized.0 c.args.iron.now.sized.1).1 in omega arith,
@@ -17,6 +19,7 @@ fetch_add-requires g c = (
 )
 
 pub invariant_of-self : goal.invariant_of-self
+unfolding model_of iron_model
 invariant_of-self g c =
     let p = c.args.self.now in let w : PassView g.row.P-Row.Denot g.row.P-Book.Denot g.row.P-Entry.Denot = left (view p.seat.me) in
     let k : Kept p.number p.rows c.fetch_add.new.seat.table_id c.fetch_add.new.seat.me p.stack.items = kept_by p.number p.rows p.seat.table_id c.fetch_add.new.seat.table_id c.fetch_add.new.seat.me p.stack.items w c.fetch_add.ensures.0
@@ -32,4 +35,5 @@ invariant_of-self g c =
     }
 
 pub returns-clause-leaves : goal.returns-clause-leaves
+unfolding model_of iron_model
 returns-clause-leaves g c = view_of _ _ _ c.fetch_add.ensures.2.1

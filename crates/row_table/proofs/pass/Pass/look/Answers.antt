@@ -5,9 +5,11 @@ use Rattle.row_table.specs.Looks.{looked_at}
 use Rattle.row_table.proofs.Looks.{looks_at}
 use Rattle.row_table.proofs.Told.{Kept, kept_by, view_of}
 use Rattle.row_table.proofs.Sizes.{row_there, sized_look}
+use Rattle.row_table.specs.Passes.{model_of, iron_model}
 use Rattle.row_table.proofs.pass.Pass.look.Goals as goal
 
 pub load-requires : goal.load-requires
+unfolding model_of iron_model
 load-requires g c = (
   search rules,
   let wide = c.args.iron.now.sized.0 in let at = c.entry-word.ensures in let less = row_there c.args.self.now.sized c.args.self.now.held _ c.args.iron.now.layout c.requires.table c.args.iron.now.sized.0 c.args.iron.now.sized.1 c.args.row c.requires.guard in let inside = c.requires.inside in omega arith,
@@ -15,6 +17,7 @@ load-requires g c = (
 )
 
 pub invariant_of-self : goal.invariant_of-self
+unfolding model_of iron_model
 invariant_of-self g c =
     let p = c.args.self.now in let t = c.load.ensures.2 c.args.row c.args.index c.requires.inside c.entry-word.ensures in
     let w : PassView g.row.P-Row.Denot g.row.P-Book.Denot g.row.P-Entry.Denot = looked_at (view p.seat.me) c.args.row t.0.place c.args.index c.load.result in
@@ -31,4 +34,5 @@ invariant_of-self g c =
     }
 
 pub returns-clause-looks : goal.returns-clause-looks
+unfolding model_of iron_model
 returns-clause-looks g c = let t = c.load.ensures.2 c.args.row c.args.index c.requires.inside c.entry-word.ensures in (t.0, view_of _ _ _ t.1)

@@ -9,12 +9,15 @@ use Rattle.row_table.specs.Moves.{released}
 use Rattle.row_table.proofs.Marks.{marks_at}
 use Rattle.row_table.proofs.Told.{Kept, kept_by, one_of, view_of, front_of, put_in, carried_row, carries_less, rows_less}
 use Rattle.row_table.proofs.Sizes.{held_there, sized_released}
+use Rattle.row_table.specs.Passes.{model_of, iron_model}
 use Rattle.row_table.proofs.pass.Pass.mark_stale.Goals as goal
 
 pub bring-requires-clause-there : goal.bring-requires-clause-there
+unfolding model_of iron_model
 bring-requires-clause-there g c = carried_row c.args.self.now.rows c.args.row (view c.args.self.now.seat.me).core.held c.args.self.now.stack.items (view c.args.self.now.seat.me).core.has_book c.args.self.now.carries c.requires.held
 
 pub store-requires : goal.store-requires
+unfolding model_of iron_model
 store-requires g c = let p = c.args.self.now in
     let front : c.bring.new.seat.me.1 ≡ (c.args.row, None) ∷ outs c.bring.ensures.front.0 = c.bring.ensures.stacked ∙ ap outs c.bring.ensures.front.1 in
     let is = put_in p.number p.seat.me c.bring.new.seat.me c.put_row.new.seat.me _ _ _ p.one c.bring.ensures.same.0 front c.put_row.ensures.seat in
@@ -29,6 +32,7 @@ store-requires g c = let p = c.args.self.now in
     )
 
 pub invariant_of-self : goal.invariant_of-self
+unfolding model_of iron_model
 invariant_of-self g c = let p = c.args.self.now in let more : List ℕ = c.bring.ensures.front.0 in
     let front : c.bring.new.seat.me.1 ≡ (c.args.row, None) ∷ outs more = c.bring.ensures.stacked ∙ ap outs c.bring.ensures.front.1 in
     let is = put_in p.number p.seat.me c.bring.new.seat.me c.put_row.new.seat.me _ _ _ p.one c.bring.ensures.same.0 front c.put_row.ensures.seat in
@@ -49,7 +53,12 @@ invariant_of-self g c = let p = c.args.self.now in let more : List ℕ = c.bring
     }
 
 pub returns-clause-marks : goal.returns-clause-marks
+unfolding model_of iron_model
 returns-clause-marks g c = let p = c.args.self.now in
     let front : c.bring.new.seat.me.1 ≡ (c.args.row, None) ∷ outs c.bring.ensures.front.0 = c.bring.ensures.stacked ∙ ap outs c.bring.ensures.front.1 in
     let is = put_in p.number p.seat.me c.bring.new.seat.me c.put_row.new.seat.me _ _ _ p.one c.bring.ensures.same.0 front c.put_row.ensures.seat in
     view_of _ _ _ (c.store.ensures.2 c.args.row c.lock-word.ensures) ∙ ap (λ (v : PassView g.row.P-Row.Denot g.row.P-Book.Denot g.row.P-Entry.Denot). released v c.args.row) (view_of _ _ _ is)
+
+pub put_row-requires-clause-table : goal.put_row-requires-clause-table
+unfolding model_of iron_model
+put_row-requires-clause-table g c κs within = c.bring.ensures.same.1 ∙ c.requires.table

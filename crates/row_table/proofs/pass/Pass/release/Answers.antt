@@ -10,16 +10,20 @@ use Rattle.row_table.proofs.Locks.{releases_at}
 use Rattle.row_table.proofs.Ready.{kept_released}
 use Rattle.row_table.proofs.Told.{Kept, kept_by, one_of, view_of, front_of, put_in, carried_row, carries_less, rows_less}
 use Rattle.row_table.proofs.Sizes.{view_held, view_there, held_there, sized_released}
+use Rattle.row_table.specs.Passes.{model_of, iron_model}
 use Rattle.row_table.proofs.pass.Pass.release.Goals as goal
 
 pub bring-requires-clause-there : goal.bring-requires-clause-there
+unfolding model_of iron_model
 bring-requires-clause-there g c = let fits = c.requires.fits in carried_row c.args.self.now.rows c.args.row (view c.args.self.now.seat.me).core.held c.args.self.now.stack.items (view c.args.self.now.seat.me).core.has_book c.args.self.now.carries (view_held c.args.self.now.sized fits.known fits.held c.args.row fits.same_row)
 
 pub lock-word-requires-clause-there : goal.lock-word-requires-clause-there
+unfolding model_of iron_model
 lock-word-requires-clause-there g c = let p = c.args.self.now in let fits = c.requires.fits in
     view_there p.sized p.held _ c.args.iron.now.layout c.requires.table c.args.iron.now.sized.0 c.args.iron.now.sized.1 fits.known fits.held c.args.row fits.same_row
 
 pub store-requires : goal.store-requires
+unfolding model_of iron_model
 store-requires g c = let p = c.args.self.now in let fits = c.requires.fits in let has = view_held p.sized fits.known fits.held c.args.row fits.same_row in
     let front : c.bring.new.seat.me.1 ≡ (c.args.row, None) ∷ outs c.bring.ensures.front.0 = c.bring.ensures.stacked ∙ ap outs c.bring.ensures.front.1 in
     let is = put_in p.number p.seat.me c.bring.new.seat.me c.put_row.new.seat.me _ _ _ p.one c.bring.ensures.same.0 front c.put_row.ensures.seat in
@@ -34,6 +38,7 @@ store-requires g c = let p = c.args.self.now in let fits = c.requires.fits in le
     )
 
 pub invariant_of-self : goal.invariant_of-self
+unfolding model_of iron_model
 invariant_of-self g c = let p = c.args.self.now in let fits = c.requires.fits in let has = view_held p.sized fits.known fits.held c.args.row fits.same_row in let more : List ℕ = c.bring.ensures.front.0 in
     let front : c.bring.new.seat.me.1 ≡ (c.args.row, None) ∷ outs more = c.bring.ensures.stacked ∙ ap outs c.bring.ensures.front.1 in
     let is = put_in p.number p.seat.me c.bring.new.seat.me c.put_row.new.seat.me _ _ _ p.one c.bring.ensures.same.0 front c.put_row.ensures.seat in
@@ -54,11 +59,17 @@ invariant_of-self g c = let p = c.args.self.now in let fits = c.requires.fits in
     }
 
 pub returns-clause-releases : goal.returns-clause-releases
+unfolding model_of iron_model
 returns-clause-releases g c = let p = c.args.self.now in
     let front : c.bring.new.seat.me.1 ≡ (c.args.row, None) ∷ outs c.bring.ensures.front.0 = c.bring.ensures.stacked ∙ ap outs c.bring.ensures.front.1 in
     let is = put_in p.number p.seat.me c.bring.new.seat.me c.put_row.new.seat.me _ _ _ p.one c.bring.ensures.same.0 front c.put_row.ensures.seat in
     view_of _ _ _ (c.store.ensures.2 c.args.row c.lock-word.ensures) ∙ ap (λ (v : PassView g.row.P-Row.Denot g.row.P-Book.Denot g.row.P-Entry.Denot). released v c.args.row) (view_of _ _ _ is)
 
 pub returns-clause-others : goal.returns-clause-others
+unfolding model_of iron_model
 returns-clause-others g c = let v : PassView g.row.P-Row.Denot g.row.P-Book.Denot g.row.P-Entry.Denot = view c.args.self.now.seat.me in
     subst (λ (u : PassView g.row.P-Row.Denot g.row.P-Book.Denot g.row.P-Entry.Denot). KeepsOpen c.args.row v u) (sym (returns-clause-releases g c)) (kept_released v c.args.row)
+
+pub put_row-requires-clause-table : goal.put_row-requires-clause-table
+unfolding model_of iron_model
+put_row-requires-clause-table g c κs within = c.bring.ensures.same.1 ∙ c.requires.table

@@ -7,18 +7,23 @@ use Rattle.row_table.proofs.Openings.{is_spelled, spelled_is, places_at, numbers
 use Rattle.row_table.proofs.Ready.{kept_prepared}
 use Rattle.row_table.proofs.Told.{Kept, kept_by, view_of}
 use Rattle.row_table.proofs.Sized.{hand_there, sized_prepared}
+use Rattle.row_table.specs.Passes.{model_of, iron_model}
 use Rattle.row_table.proofs.pass.Pass.set_up.Goals as goal
 
 pub position_word-spelled-requires : goal.position_word-spelled-requires
+unfolding model_of iron_model
 position_word-spelled-requires g c = is_spelled (view c.args.self.now.seat.me).layout c.args.place c.requires.guard.is_place
 
 pub position-place_word-requires-clause-there : goal.position-place_word-requires-clause-there
+unfolding model_of iron_model
 position-place_word-requires-clause-there g c = hand_there c.args.self.now.sized _ c.args.iron.now.layout c.requires.table c.args.iron.now.sized.0 c.args.iron.now.sized.1 c.args.row c.requires.guard.known c.requires.guard.in_hand c.requires.guard.same_row
 
 pub generation-number_word-requires-clause-there : goal.generation-number_word-requires-clause-there
+unfolding model_of iron_model
 generation-number_word-requires-clause-there g c = hand_there c.args.self.now.sized _ c.args.iron.now.layout c.requires.table c.args.iron.now.sized.0 c.args.iron.now.sized.1 c.args.row c.requires.guard.known c.requires.guard.in_hand c.requires.guard.same_row
 
 pub store-requires : goal.store-requires
+unfolding model_of iron_model
 store-requires g c = let may = c.requires.guard in (
   search rules,
   let wide = c.args.iron.now.sized.0 in let at = c.position-place_word.ensures in let less = hand_there c.args.self.now.sized _ c.args.iron.now.layout c.requires.table c.args.iron.now.sized.0 c.args.iron.now.sized.1 c.args.row c.requires.guard.known c.requires.guard.in_hand c.requires.guard.same_row in omega arith,
@@ -26,6 +31,7 @@ store-requires g c = let may = c.requires.guard in (
 )
 
 pub store-requires-2 : goal.store-requires-2
+unfolding model_of iron_model
 store-requires-2 g c = (
   search rules,
   let wide = c.args.iron.now.sized.0 in let at = c.generation-number_word.ensures in let less = hand_there c.args.self.now.sized _ c.args.iron.now.layout c.requires.table c.args.iron.now.sized.0 c.args.iron.now.sized.1 c.args.row c.requires.guard.known c.requires.guard.in_hand c.requires.guard.same_row in omega arith,
@@ -34,6 +40,7 @@ store-requires-2 g c = (
 )
 
 pub invariant_of-self : goal.invariant_of-self
+unfolding model_of iron_model
 invariant_of-self g c =
     let p = c.args.self.now in let first = c.store.ensures.2 c.args.row c.position-place_word.ensures in
     let w : PassView g.row.P-Row.Denot g.row.P-Book.Denot g.row.P-Entry.Denot = prepared (view p.seat.me) c.args.row (place_shown c.position_word-spelled.result) c.args.generation in
@@ -51,6 +58,7 @@ invariant_of-self g c =
     }
 
 pub returns-clause-sets_up : goal.returns-clause-sets_up
+unfolding model_of iron_model
 returns-clause-sets_up g c =
     let v : PassView g.row.P-Row.Denot g.row.P-Book.Denot g.row.P-Entry.Denot = view c.args.self.now.seat.me in
     view_of _ _ _ (c.store-2.ensures.2 c.args.row c.generation-number_word.ensures)
@@ -58,11 +66,13 @@ returns-clause-sets_up g c =
     ∙ ap (λ (q : _). prepared v c.args.row q c.args.generation) (spelled_is v.layout c.args.place _ c.requires.guard.is_place c.position_word-spelled.ensures))
 
 pub returns-clause-may_open : goal.returns-clause-may_open
+unfolding model_of iron_model
 returns-clause-may_open g c =
     let v : PassView g.row.P-Row.Denot g.row.P-Book.Denot g.row.P-Entry.Denot = view c.args.self.now.seat.me in let guard = c.requires.guard in
     subst (λ (u : PassView g.row.P-Row.Denot g.row.P-Book.Denot g.row.P-Entry.Denot). MayOpen u c.args.row) (sym (returns-clause-sets_up g c))
     (may_open g.P.Plan.meaning v c.args.row c.args.generation c.args.place guard.known c.args.self.now.sized.granted.0 guard.in_hand guard.same_row guard.closed)
 
 pub returns-clause-others : goal.returns-clause-others
+unfolding model_of iron_model
 returns-clause-others g c = let v : PassView g.row.P-Row.Denot g.row.P-Book.Denot g.row.P-Entry.Denot = view c.args.self.now.seat.me in
     subst (λ (u : PassView g.row.P-Row.Denot g.row.P-Book.Denot g.row.P-Entry.Denot). KeepsOpen c.args.row v u) (sym (returns-clause-sets_up g c)) (kept_prepared v c.args.row c.args.generation c.args.place)

@@ -9,9 +9,11 @@ use Rattle.row_table.specs.Books.{turned, waited, Learns}
 use Rattle.row_table.proofs.Turns.{turns_at}
 use Rattle.row_table.proofs.Told.{Kept, kept_by, view_of, front_of, swapped, book_came_out, room_left, no_book, carries_book}
 use Rattle.row_table.proofs.Sizes.{same_layout, sized_turned, sized_waited}
+use Rattle.row_table.specs.Passes.{model_of, iron_model}
 use Rattle.row_table.proofs.pass.Pass.turn.Goals as goal
 
 pub compare_exchange-found-requires : goal.compare_exchange-found-requires
+unfolding model_of iron_model
 compare_exchange-found-requires g c = (
   search rules,
   let wide = c.args.iron.now.sized.0 in let at = c.book-word.ensures in omega arith,
@@ -19,19 +21,23 @@ compare_exchange-found-requires g c = (
 )
 
 pub push_front_reserved-requires : goal.push_front_reserved-requires
+unfolding model_of iron_model
 push_front_reserved-requires g c =
     let p = c.args.self.now in let room = p.room in
     let none : times p.rows p.stack.items ≡ 0 = no_book p.rows (view p.seat.me).core.held p.stack.items (view p.seat.me).core.has_book c.requires.free p.held p.carries in
     let few = room_left p.rows p.rows (view p.seat.me).core.held p.stack.items (view p.seat.me).core.has_book p.carries p.held (omega arith) none in omega arith
 
 pub take_book-requires-clause-front : goal.take_book-requires-clause-front
+unfolding model_of iron_model
 take_book-requires-clause-front g c κs within = let slots = ap (λ (x : _). x.slots) c.requires.table ∙ c.args.iron.now.sized.1 in
     let t = (c.compare_exchange-found.ensures.2 c.args.iron.now.layout.rows c.args.iron.now.sized.1).0 c.if-found-eq0.true in (t.0, front_of _ _ _ _ t.2)
 
 pub overflow_cast-result : goal.overflow_cast-result
+unfolding model_of iron_model
 overflow_cast-result g c = let t = (c.compare_exchange-found.ensures.2 c.args.iron.now.layout.rows c.args.iron.now.sized.1).1 c.if-found-eq0.false in omega (arith, t.3)
 
 pub invariant_of-self : goal.invariant_of-self
+unfolding model_of iron_model
 invariant_of-self g c =
     let p = c.args.self.now in let rows : ℕ = c.args.iron.now.layout.rows in
     let t = (c.compare_exchange-found.ensures.2 rows c.args.iron.now.sized.1).0 c.if-found-eq0.true in
@@ -54,6 +60,7 @@ invariant_of-self g c =
     }
 
 pub returns-then-found-eq0-clause-turns : goal.returns-then-found-eq0-clause-turns
+unfolding model_of iron_model
 returns-then-found-eq0-clause-turns g c =
     let t = (c.compare_exchange-found.ensures.2 c.args.iron.now.layout.rows c.args.iron.now.sized.1).0 c.if-found-eq0.true in
     let same : t.0 ≡ c.take_book.result = book_came_out _ _ _ _ _ _ _ t.2 c.take_book.ensures.front in
@@ -61,6 +68,7 @@ returns-then-found-eq0-clause-turns g c =
     (t.1, view_of _ _ _ (swapped _ _ _ _ _ _ t.2 c.take_book.ensures.seat))
 
 pub invariant_of-self-else-found-eq0 : goal.invariant_of-self-else-found-eq0
+unfolding model_of iron_model
 invariant_of-self-else-found-eq0 g c =
     let p = c.args.self.now in let t = (c.compare_exchange-found.ensures.2 c.args.iron.now.layout.rows c.args.iron.now.sized.1).1 c.if-found-eq0.false in
     let w : PassView g.row.P-Row.Denot g.row.P-Book.Denot g.row.P-Entry.Denot = waited (view p.seat.me) c.compare_exchange-found.result in
@@ -77,6 +85,7 @@ invariant_of-self-else-found-eq0 g c =
     }
 
 pub returns-clause-turns : goal.returns-clause-turns
+unfolding model_of iron_model
 returns-clause-turns g c = let t = (c.compare_exchange-found.ensures.2 c.args.iron.now.layout.rows c.args.iron.now.sized.1).1 c.if-found-eq0.false in let other = c.if-found-eq0.false in
     let is = t.2 in (
       t.0,
@@ -85,7 +94,13 @@ returns-clause-turns g c = let t = (c.compare_exchange-found.ensures.2 c.args.ir
     )
 
 pub returns-then-found-eq0-clause-layout : goal.returns-then-found-eq0-clause-layout
+unfolding model_of iron_model
 returns-then-found-eq0-clause-layout g c = same_layout c.args.self.now.sized _ c.args.iron.now.layout c.requires.table c.args.iron.now.sized.0 c.args.iron.now.sized.1
 
 pub returns-clause-layout : goal.returns-clause-layout
+unfolding model_of iron_model
 returns-clause-layout g c = same_layout c.args.self.now.sized _ c.args.iron.now.layout c.requires.table c.args.iron.now.sized.0 c.args.iron.now.sized.1
+
+pub take_book-requires-clause-table : goal.take_book-requires-clause-table
+unfolding model_of iron_model
+take_book-requires-clause-table g c κs within = c.compare_exchange-found.ensures.0 ∙ c.requires.table

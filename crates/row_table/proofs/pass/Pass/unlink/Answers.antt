@@ -6,15 +6,18 @@ use Rattle.row_table.proofs.Links.{cuts_at}
 use Rattle.row_table.proofs.Told.{Kept, kept_by, view_of}
 use Rattle.row_table.proofs.Sizes.{view_there}
 use Rattle.row_table.proofs.Sized.{sized_cut}
+use Rattle.row_table.specs.Passes.{model_of, iron_model}
 use Rattle.row_table.proofs.pass.Pass.unlink.Goals as goal
 
 pub entry-place-requires-clause-there : goal.entry-place-requires-clause-there
+unfolding model_of iron_model
 entry-place-requires-clause-there g c = let may = c.requires.guard in (
   view_there c.args.self.now.sized c.args.self.now.held _ c.args.iron.now.layout c.requires.table c.args.iron.now.sized.0 c.args.iron.now.sized.1 may.linker may.held c.args.row may.same_row,
   may.inside,
 )
 
 pub store-requires : goal.store-requires
+unfolding model_of iron_model
 store-requires g c = (
   search rules,
   let wide = c.args.iron.now.sized.0 in let at = c.entry-place.ensures in let may = c.requires.guard in
@@ -23,6 +26,7 @@ store-requires g c = (
 )
 
 pub invariant_of-self : goal.invariant_of-self
+unfolding model_of iron_model
 invariant_of-self g c =
     let p = c.args.self.now in let may = c.requires.guard in let t = c.store.ensures.2 c.args.row c.args.index may.linker may.inside c.entry-place.ensures may.held may.same_row in
     let w : PassView g.row.P-Row.Denot g.row.P-Book.Denot g.row.P-Entry.Denot = entry_cut (view p.seat.me) may.linker c.args.index in
@@ -39,4 +43,5 @@ invariant_of-self g c =
     }
 
 pub returns-clause-unlinks : goal.returns-clause-unlinks
+unfolding model_of iron_model
 returns-clause-unlinks g c linker held same = view_of _ _ _ (c.store.ensures.2 c.args.row c.args.index linker c.requires.guard.inside c.entry-place.ensures held same)

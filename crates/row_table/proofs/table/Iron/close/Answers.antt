@@ -5,12 +5,13 @@ use Rattle.row_table.specs.declared.pass.Pass.{Pass}
 use Rattle.row_table.specs.declared.view.PassView.{PassView}
 use Rattle.row_table.specs.declared.close.Parts.{Parts}
 use Rattle.row_table.specs.Rule.{view}
-use Rattle.row_table.specs.Passes.{number_of}
+use Rattle.row_table.specs.Passes.{number_of, model_of, iron_model}
 use Rattle.row_table.specs.Close.{IsIdle, HasAll, IsClosed}
 use Rattle.row_table.proofs.Turns.{same_parts}
 use Rattle.row_table.proofs.table.Iron.close.Goals as goal
 
 pub finish-requires-clause-all : goal.finish-requires-clause-all
+unfolding model_of iron_model
 finish-requires-clause-all g c κs within =
     let has : HasAll c.args.self.layout.passes (map (λ p. number_of p) c.args.passes.items)
     = subst (λ (l : List (Pass g.row.P.Denot g.row.P-Row.Denot g.row.P-Book.Denot g.row.P-Kit.Denot g.row.P-Entry.Denot g.P.Plan)). HasAll c.args.self.layout.passes (map (λ p. number_of p) l)) c.as_slice.ensures.value (c.if-not-has_all.ensures.0 (search rules)) in
@@ -19,11 +20,13 @@ finish-requires-clause-all g c κs within =
     subst (λ (l : List (PassView g.row.P-Row.Denot g.row.P-Book.Denot g.row.P-Entry.Denot)). HasAll c.args.self.layout.passes (map (λ v. v.number) l)) (sym views) (subst (HasAll c.args.self.layout.passes) (sym numbers) has)
 
 pub finish-requires-clause-idle : goal.finish-requires-clause-idle
+unfolding model_of iron_model
 finish-requires-clause-idle g c κs within =
     let views = ap (λ m. m.0) c.gather-seat.ensures.seat in
     λ v i. All-contains (λ v. IsIdle v) (map (λ p. view p.seat.me) c.args.passes.items) v (All-map (λ v. IsIdle v) (λ p. view p.seat.me) c.args.passes.items c.requires.idle) (subst (λ (l : List (PassView g.row.P-Row.Denot g.row.P-Book.Denot g.row.P-Entry.Denot)). Contains l v) views i)
 
 pub returns-clause-closed : goal.returns-clause-closed
+unfolding model_of iron_model
 returns-clause-closed g c =
     let has : HasAll c.args.self.layout.passes (map (λ p. number_of p) c.args.passes.items)
     = subst (λ (l : List (Pass g.row.P.Denot g.row.P-Row.Denot g.row.P-Book.Denot g.row.P-Kit.Denot g.row.P-Entry.Denot g.P.Plan)). HasAll c.args.self.layout.passes (map (λ p. number_of p) l)) c.as_slice.ensures.value (c.if-not-has_all.ensures.0 (search rules)) in
@@ -35,6 +38,7 @@ returns-clause-closed g c =
     )
 
 pub returns-then-not-has_all-clause-not_all : goal.returns-then-not-has_all-clause-not_all
+unfolding model_of iron_model
 returns-then-not-has_all-clause-not_all g c = λ iron back e. (
   λ has. (let t = c.if-not-has_all.ensures.1 (subst (λ (l : List (Pass g.row.P.Denot g.row.P-Row.Denot g.row.P-Book.Denot g.row.P-Kit.Denot g.row.P-Entry.Denot g.P.Plan)). HasAll c.args.self.layout.passes (map (λ p. number_of p) l)) (sym c.as_slice.ensures.value) has) in absurd (cc)),
   (let o = e in cc),

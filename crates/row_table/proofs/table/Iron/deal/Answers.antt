@@ -4,11 +4,12 @@ use Rattle.std.proofs.lemmas.List.{map-append}
 use Rattle.std.proofs.lemmas.List.Elements.{All-push, All-same}
 use Rattle.row_table.specs.declared.pass.Pass.{Pass}
 use Rattle.row_table.specs.Rule.{unmoved, boot_from, view}
-use Rattle.row_table.specs.Passes.{number_of}
+use Rattle.row_table.specs.Passes.{number_of, model_of, iron_model}
 use Rattle.row_table.proofs.Start.{next_new, after_cut, dealt_length, numbers_more}
 use Rattle.row_table.proofs.table.Iron.deal.Goals as goal
 
 pub cut-pass-requires-clause-first : goal.cut-pass-requires-clause-first
+unfolding model_of iron_model
 cut-pass-requires-clause-first g c κs within =
     let inv = c.loop-kit.invariant in let left = dealt_length _ c.loop-kit.passes.items c.loop-kit.yielded c.loop-kit.kit-iterator.rest.items c.args.kits.items c.args.self.now.layout.passes inv.kits inv.kits_left c.requires.kits in
     let step = ap length c.in-Some.ensures.steps.0 in
@@ -19,6 +20,7 @@ cut-pass-requires-clause-first g c κs within =
     )
 
 pub loop-kit-preserved : goal.loop-kit-preserved
+unfolding model_of iron_model
 loop-kit-preserved g c =
     let inv = c.loop-kit.invariant in let left = dealt_length _ c.loop-kit.passes.items c.loop-kit.yielded c.loop-kit.kit-iterator.rest.items c.args.kits.items c.args.self.now.layout.passes inv.kits inv.kits_left c.requires.kits in
     let step = ap length c.in-Some.ensures.steps.0 in

@@ -5,12 +5,15 @@ use Rattle.row_table.specs.Stack.{outs}
 use Rattle.row_table.specs.Close.{IsIdle}
 use Rattle.row_table.proofs.End.{enters, joins, all_of, nothing_left}
 use Rattle.row_table.proofs.Told.{nothing_out}
+use Rattle.row_table.specs.Passes.{model_of, iron_model}
 use Rattle.row_table.proofs.table.Iron.gather.Goals as goal
 
 pub load_new_seat-seat-requires : goal.load_new_seat-seat-requires
+unfolding model_of iron_model
 load_new_seat-seat-requires g c = (let wide = c.args.self.now.sized.0 in omega arith, enters g.P.Plan.meaning _ _ _ _)
 
 pub join_seat-requires : goal.join_seat-requires
+unfolding model_of iron_model
 join_seat-requires g c =
     let inv = c.loop-pass.invariant in let x = c.in-Some.pass in
     let whole : c.loop-pass.yielded ++ x ∷ c.next.new.self.rest.items ≡ c.args.passes.items = ap (λ (l : _). c.loop-pass.yielded ++ l) (sym c.in-Some.ensures.steps.0) ∙ inv.all in
@@ -25,6 +28,7 @@ join_seat-requires g c =
     )
 
 pub returns-clause-seat : goal.returns-clause-seat
+unfolding model_of iron_model
 returns-clause-seat g c =
     let inv = c.loop-pass.invariant in let rest = c.loop-pass.pass-iterator.rest in let done = c.in-None.ensures.steps.0 in let long = rest.ok in
     let none_left : rest.items ≡ [] = nothing_left rest.items (omega arith) in
