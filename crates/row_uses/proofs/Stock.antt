@@ -1,8 +1,8 @@
 -- What the tests' plan with rows to grant lets a pass do.
-use Rattle.std.proofs.Common.{◌≡◌, ℕ, ◌+◌, ◌-◌, ◌≤◌, cond, not, Bool, true, false, List, [], ◌∷◌, ◌++◌, length, inl, sym, refl, ap, ◌∙◌, subst, ⊎_elim, arith, append-nil}
-use Rattle.std.specs.List.{Contains, filter, range_with_len, AllByRecursion}
+use Rattle.std.proofs.Common.{◌≡◌, ℕ, ◌+◌, ◌-◌, ◌≤◌, cond, not, Bool, true, false, List, [], ◌∷◌, ◌++◌, length, inl, sym, refl, ap, ◌∙◌, subst, ⊎_elim, arith, append-nil, Some}
+use Rattle.std.specs.List.{All, Contains, filter, range_with_len, AllByRecursion}
 use Rattle.std.proofs.lemmas.List.{map-append}
-use Rattle.std.proofs.lemmas.List.Elements.{filter-append}
+use Rattle.std.proofs.lemmas.List.Elements.{All-pop, filter-append}
 use native.Mathlib.Decide.{ℕ_discrete}
 use mathlib.Core.Logic.{dite}
 use mathlib.Core.Option.{some}
@@ -23,6 +23,10 @@ use Rattle.row_table.proofs.Turns.{has_contained}
 use Rattle.row_table.proofs.Beside.{has_part}
 
 -- Lists
+
+-- the last two of a list of which each is of this kind
+pub last_two : {X : Type 0} (P : X → Type 0) (xs ys zs : List X) (x y : X) → All P xs → xs ≡ ys ++ x ∷ [] → ys ≡ zs ++ y ∷ [] → P x × P y
+last_two P xs ys zs x y all one two = let last = All-pop P xs ys (Some x) one all in let next = All-pop P ys zs (Some y) two last.0 in (last.1, next.1)
 
 pub filter_all : {X : Type 0} (t : X → Bool) (xs : List X) → ((x : X) → Contains xs x → t x ≡ true) → filter t xs ≡ xs
 filter_all t [] all = refl

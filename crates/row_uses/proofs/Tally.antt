@@ -10,7 +10,7 @@ use Rattle.walk_core.specs.Events.{unlinked_after_give}
 use Rattle.row_layout.specs.declared.places.Layout.{Layout}
 use Rattle.row_table.specs.declared.view.PassView.{PassView}
 use Rattle.row_table.specs.Plan.{HasGrown}
-use Rattle.row_table.specs.Rule.{StartsWith, places_from, own_places, unmoved}
+use Rattle.row_table.specs.Rule.{StartsWith, places_from, own_places}
 use Rattle.row_table.specs.Books.{MayGive, turned, Learns, Gives}
 use Rattle.row_table.specs.Close.{IsIdle}
 use Rattle.row_table.specs.Start.{MayStart}
@@ -49,9 +49,6 @@ may_start k rows book two long none = record {
   limbo = refl;
   generation = omega arith;
 }
-
-pub new_idle : (k : Layout) (book : Notes) (n : ℕ) (v : View) → v ≡ unmoved k (Some book) n → IsIdle v
-new_idle k book n v e = subst (λ (u : View). IsIdle u) (sym e) (record { outside = refl; held = refl; granted = refl; unlinked = refl; has_not = refl })
 
 -- a pass that has nothing has nothing after it had the book
 pub idle_again : (v w u : View) (book new : Notes) → IsIdle v → w ≡ turned tally v book → Gives tally w new u → IsIdle u

@@ -12,7 +12,7 @@ use Rattle.walk_core.proofs.RowLists.{times-nil}
 use Rattle.row_table.specs.declared.view.PassView.{PassView}
 use Rattle.row_table.specs.declared.view.HeldRow.{HeldRow}
 use Rattle.row_table.specs.Plan.{Meaning}
-use Rattle.row_table.specs.Rule.{levels_of}
+use Rattle.row_table.specs.Rule.{levels_of, unmoved}
 use Rattle.row_layout.specs.declared.places.Layout.{Layout}
 use Rattle.row_table.specs.Known.{IsKnownPlace, IsHolder, LinksRow}
 use Rattle.row_table.specs.declared.view.Finding.{Finding}
@@ -85,6 +85,18 @@ module _ {R B E : Type 0} where
     layout = ap (λ (z : PassView R B E). z.layout) e;
   }
 
+  -- where the word is a link the pass stands on the linked row
+  pub stands_below : (v w : PassView R B E) (row index n next : ℕ) (r : Reads v row index n) → IsStanding v row → w ≡ looked_at v row r.place index n → is_link n ≡ true → next ≡ link_row n → IsStanding w next
+  stands_below v w row index n next r at e link same = record {
+    stand = came (levels_of v.layout) at.stand index n;
+    on = ap (λ (z : PassView R B E). z.core.stand) e ∙ ((λ j. stand_after_look (levels_of v.layout) (sym at.same_row j) index n (at.on j)) ∙ came_is (levels_of v.layout) index n at.stand);
+    same_row = ap (λ (b : Bool). (cond b (record { row = link_row n; place = entry_place (levels_of v.layout) at.stand.place index; generation = link_generation n }) at.stand).row) link ∙ sym same;
+    held = ap (λ (z : PassView R B E). z.core.held) e ∙ at.held;
+    granted = ap (λ (z : PassView R B E). z.core.granted) e ∙ at.granted;
+    unlinked = ap (λ (z : PassView R B E). z.core.unlinked) e ∙ at.unlinked;
+    has_not = ap (λ (z : PassView R B E). z.core.has_book) e ∙ at.has_not;
+  }
+
   -- the same pass, where its stand is known
   abbrev pub stands_on : {v : PassView R B E} {row : ℕ} (at : IsStanding v row) (s : Stand) → v.core.stand ≡ Some s → IsStanding v row
   stands_on at s e = record { stand = s; on = e; same_row = ap (λ (y : Stand). y.row) (some_is s at.stand (sym e ∙ at.on)) ∙ at.same_row; held = at.held; granted = at.granted; unlinked = at.unlinked; has_not = at.has_not }
@@ -99,6 +111,10 @@ module _ {R B E : Type 0} where
     unlinked = ap (λ (z : PassView R B E). z.core.unlinked) e ∙ idle.unlinked;
     has_not = ap (λ (z : PassView R B E). z.core.has_book) e ∙ idle.has_not;
   }
+
+  -- a pass of a table at its start has nothing
+  pub new_idle : (k : Layout) (book : B) (n : ℕ) (v : PassView R B E) → v ≡ unmoved k (Some book) n → IsIdle v
+  new_idle k book n v e = subst (λ (u : PassView R B E). IsIdle u) (sym e) (record { outside = refl; held = refl; granted = refl; unlinked = refl; has_not = refl })
 
   -- the whole way
   went : (v u0 u1 u2 w : PassView R B E) (first second word : ℕ) → u0 ≡ entered v → (one : WentDown u0 top first u1) (two : WentDown u1 (came (levels_of u0.layout) top first one.word) second u2)

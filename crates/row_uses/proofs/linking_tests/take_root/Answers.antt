@@ -1,8 +1,12 @@
-use Rattle.std.proofs.Common.{inl, inr, ap, ◌∙◌}
+use Rattle.std.proofs.Common.{inl, inr, refl, ap, ◌∙◌}
+use Rattle.walk_core.specs.Events.{top}
 use Rattle.row_table.specs.Passes.{view_of}
 use Rattle.row_uses.specs.Stock.{View}
 use Rattle.row_uses.proofs.Grafts.{stands_on_root, holds_it, took}
 use Rattle.row_uses.proofs.linking_tests.take_root.Goals as goal
+
+pub look-link-requires-clause-guard : goal.look-link-requires-clause-guard
+look-link-requires-clause-guard c κs = inl (top, ap (λ (v : View). v.core.stand) c.in-Ok.ensures.enters.1, refl)
 
 pub grab-requires-clause-guard : goal.grab-requires-clause-guard
 grab-requires-clause-guard c κs = let l = c.look-link.ensures.looks in

@@ -1,9 +1,13 @@
-use Rattle.std.proofs.Common.{inl, inr, sym, ap, ◌∙◌, subst}
+use Rattle.std.proofs.Common.{inl, inr, sym, refl, ap, ◌∙◌, subst}
+use Rattle.walk_core.specs.Events.{top}
 use Rattle.row_table.specs.Passes.{view_of}
 use Rattle.walk_core.specs.Lists.{Has}
 use Rattle.row_uses.specs.Sown.{View}
 use Rattle.row_uses.proofs.SownRoot.{stands_on_root, holds_it, took, looked_on}
 use Rattle.row_uses.proofs.sowing_tests.take_root.Goals as goal
+
+pub look-link-requires-clause-guard : goal.look-link-requires-clause-guard
+look-link-requires-clause-guard c κs = inl (top, ap (λ (v : View). v.core.stand) c.in-Ok.ensures.enters.1, refl)
 
 pub grab-requires-clause-guard : goal.grab-requires-clause-guard
 grab-requires-clause-guard c κs = let l = c.look-link.ensures.looks in

@@ -4,6 +4,9 @@ use Rattle.row_table.specs.Passes.{view_of}
 use Rattle.row_uses.proofs.Visits.{stands_on, stands_at_top, looked_in}
 use Rattle.row_uses.proofs.uses.look_in.Goals as goal
 
+pub go_down-between-requires-clause-stands : goal.go_down-between-requires-clause-stands
+go_down-between-requires-clause-stands g c κs within = stands_at_top (view_of c.args.pass.now) (view_of c.enter.new.self) c.requires.idle c.in-Ok.ensures.enters.1
+
 pub returns-in-Ok-clause-looked : goal.returns-in-Ok-clause-looked
 returns-in-Ok-clause-looked g c =
     let e = c.in-Ok.ensures.enters.1 in
