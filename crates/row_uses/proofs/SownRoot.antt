@@ -27,7 +27,7 @@ use Rattle.row_uses.specs.declared.sowing.Seeds.{Seeds}
 use Rattle.row_uses.specs.Sown.{same_place, sown, View, HoldsAlone, KeepsRow, Sows, MaySowBoth, SowsBoth, bed, next_bed, HasRoot, HasBeds}
 use Rattle.row_table.proofs.Views.{in_head}
 use Rattle.row_uses.proofs.Grafts.{root_link, root_is_link}
-use Rattle.row_uses.proofs.SownSteps.{empty_map}
+use Rattle.row_uses.proofs.Visits.{empty_map}
 
 -- where the first look led it
 stands_there : (v1 v2 : View) (n : ℕ) (p : Place) → v1.core.stand ≡ Some top → v2 ≡ looked_at v1 0 p 0 n → n ≡ root_link

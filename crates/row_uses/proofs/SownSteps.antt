@@ -31,6 +31,7 @@ use Rattle.row_table.proofs.Views.{in_head, in_tail}
 use Rattle.row_table.proofs.Turns.{has_contained}
 use Rattle.row_table.proofs.Beside.{has_part}
 use Rattle.row_table.proofs.Vacant.{is_vacant}
+use Rattle.row_uses.proofs.Visits.{empty_map}
 use Rattle.row_uses.proofs.Stock.{filter_none, minus_none, limbo_same, empty_journal, filter_all, minus_has}
 use Rattle.row_uses.proofs.SownPlaces.{few_levels, Splits, splits, only_row, touched, lists_other, lists_it, keeps_listed}
 use Rattle.std.proofs.lemmas.List.Elements.{filter-append}
@@ -107,10 +108,6 @@ pub record Stage (v : View) (k : Layout) (stand : Option Stand) (rows : List (He
   pub hand_is : v.hand ≡ hand
   pub last_is : v.last ≡ last
   pub has_not : v.core.has_book ≡ false
-
-pub empty_map : {X Y : Type 0} (f : X → Y) (xs : List X) → map f xs ≡ [] → xs ≡ []
-empty_map f [] e = refl
-empty_map f (x ∷ xs) e = let long = ap length e in absurd (omega arith)
 
 -- after a give
 pub gave_stage : (v0 v1 v2 : View) (book new : Seeds) (h : HeldRow Bool) (ts : List ℕ) (rows : ℕ) → HoldsAlone v0 h → Learns sown rows v0 book → v1 ≡ turned sown v0 book → (g : Gives sown v1 new v2) → taken_rows sown g.old new ≡ ts

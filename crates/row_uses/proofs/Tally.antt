@@ -10,12 +10,12 @@ use Rattle.walk_core.specs.Events.{unlinked_after_give}
 use Rattle.row_layout.specs.declared.places.Layout.{Layout}
 use Rattle.row_table.specs.declared.view.PassView.{PassView}
 use Rattle.row_table.specs.Plan.{HasGrown}
-use Rattle.row_table.specs.Rule.{StartsWith, places_from, own_places}
+use Rattle.row_table.specs.Rule.{places_from, own_places}
 use Rattle.row_table.specs.Books.{MayGive, turned, Learns, Gives}
 use Rattle.row_table.specs.Close.{IsIdle}
 use Rattle.row_table.specs.Start.{MayStart}
 use Rattle.row_uses.specs.Tally.{Notes, tally}
-use Rattle.row_uses.specs.Uses.{HasAdded}
+use Rattle.row_uses.specs.Uses.{HasAdded, HasReturned}
 
 abbrev pub View : Type 0
 View = PassView ℕ Notes (ℕ × ℕ)
@@ -82,11 +82,16 @@ has_added rows v w u book new x learns e gives is names = record {
       ∙ ((λ j. sym learns.mine j ++ (0 + length book.items) ∷ []) ∙ ap (λ (n : ℕ). v.mine ++ n ∷ []) (let z : 0 + length book.items ≡ length book.items = omega arith in z))));
 }
 
-pub none_added : (rows : ℕ) (v w u : View) (book new : Notes) → Learns tally rows v book → w ≡ turned tally v book → Gives tally w new u → new.items ≡ book.items → StartsWith u.seen v.seen × (u.mine ≡ v.mine)
-none_added rows v w u book new learns e gives is = (
-  (learns.seen.0, ap (λ (y : View). y.seen) gives.after ∙ (is ∙ learns.seen.1)),
-  ap (λ (y : View). y.mine) gives.after ∙ ((λ j. own_places tally (ap (λ (y : View). y.number) e j) (is j)) ∙ sym learns.mine),
-)
+pub none_added : (rows : ℕ) (v w u : View) (book new : Notes) → v.layout.rows ≡ rows → Learns tally rows v book → w ≡ turned tally v book → Gives tally w new u → new.items ≡ book.items → HasReturned tally v u
+none_added rows v w u book new layout learns e gives is = record {
+  found = book;
+  learned = subst (λ (n : ℕ). Learns tally n v book) (sym layout) learns;
+  seen = ap (λ (y : View). y.seen) gives.after ∙ is;
+  mine = ap (λ (y : View). y.mine) gives.after ∙ ((λ j. own_places tally (ap (λ (y : View). y.number) e j) (is j)) ∙ sym learns.mine);
+  book = new;
+  last = ap (λ (y : View). y.last) gives.after;
+  same = is;
+}
 
 -- what a push that may fail did
 pub added : (ok : Bool) (old new : List (ℕ × ℕ)) (x : ℕ × ℕ) → new ≡ (if ok then old ++ x ∷ [] else old) → HasGrown old new × ((e : ℕ × ℕ) → new ≡ old ++ e ∷ [] → e.0 ≡ x.0)

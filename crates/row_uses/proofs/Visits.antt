@@ -1,6 +1,6 @@
 -- What a caller of a pass knows after looks and grabs, from the public clauses alone.
-use Rattle.std.proofs.Common.{◌≡◌, ◌≢◌, ℕ, ◌+◌, ◌&&◌, Option, Some, None, Bool, true, false, cond, not, List, [], ◌∷◌, ◌++◌, sym, refl, ap, ◌∙◌, subst, inl, ⊎_elim, arith, eq-eqb}
-use Rattle.std.specs.List.{Contains}
+use Rattle.std.proofs.Common.{◌≡◌, ◌≢◌, ℕ, ◌+◌, ◌&&◌, Option, Some, None, Ok, Err, eqb, length, map, Bool, true, false, cond, not, List, [], ◌∷◌, ◌++◌, sym, refl, ap, ◌∙◌, subst, inl, ⊎_elim, arith, eq-eqb}
+use Rattle.std.specs.List.{Contains, filter}
 use Rattle.std.proofs.lemmas.List.Elements.{Contains-append_right}
 use Rattle.table_place.specs.declared.Place.{Place}
 use Rattle.table_place.specs.Place.{entry_place}
@@ -12,9 +12,9 @@ use Rattle.walk_core.proofs.RowLists.{times-nil}
 use Rattle.row_table.specs.declared.view.PassView.{PassView}
 use Rattle.row_table.specs.declared.view.HeldRow.{HeldRow}
 use Rattle.row_table.specs.Plan.{Meaning}
-use Rattle.row_table.specs.Rule.{levels_of, unmoved}
+use Rattle.row_table.specs.Rule.{levels_of, unmoved, row_part}
 use Rattle.row_layout.specs.declared.places.Layout.{Layout}
-use Rattle.row_table.specs.Known.{IsKnownPlace, IsHolder, LinksRow}
+use Rattle.row_table.specs.Known.{IsKnownPlace, IsHolder, IsLoose, LinksRow}
 use Rattle.row_table.specs.declared.view.Finding.{Finding}
 use Rattle.row_table.specs.Moves.{finding, grabbed, looked, got, released, Finds, Fits}
 use Rattle.row_table.specs.Looks.{looked_at, Reads}
@@ -22,7 +22,11 @@ use Rattle.row_table.specs.Crossings.{entered, left}
 use Rattle.row_table.specs.Close.{IsIdle}
 use Rattle.row_uses.specs.declared.uses.Visit.{Visit}
 use Rattle.row_uses.specs.declared.uses.Visit.TheVariants.{Got, Held, Stale, Worn}
-use Rattle.row_uses.specs.Uses.{IsStanding, HoldsAt, Notes, came, WentDown, Touched, Went, LookedIn}
+use Rattle.row_uses.specs.declared.uses.Holder.{Holder}
+use Rattle.row_uses.specs.declared.uses.Unseen.{Unseen}
+use Rattle.row_uses.specs.declared.uses.Unseen.TheVariants as Unseen
+use Rattle.row_uses.specs.Takes.{Takes, Peeks}
+use Rattle.row_uses.specs.Uses.{IsStanding, Notes, came, WentDown, Touched, Went, LookedIn}
 use Rattle.row_table.proofs.Sizes.{some_is}
 
 -- where a look leads
@@ -33,6 +37,10 @@ came_is levels index n s = ap (λ (b : Bool). cond (b && is_link n) (Some (recor
         ≡ Some (cond b (record { row = link_row n; place = entry_place levels s.place index; generation = link_generation n }) s)
     go true = refl
     go false = refl
+
+pub empty_map : {X Y : Type 0} (f : X → Y) (xs : List X) → map f xs ≡ [] → xs ≡ []
+empty_map f [] e = refl
+empty_map f (x ∷ xs) e = let long = ap length e in absurd (omega arith)
 
 module _ {R B E : Type 0} where
   last_row : (v : PassView R B E) (row : ℕ) (place : Place) (generation : ℕ) (words : List ℕ) (x : R) → Contains (v.rows ++ grabbed row place generation words x ∷ []) (grabbed row place generation words x)
@@ -66,12 +74,9 @@ module _ {R B E : Type 0} where
       → v.findings ++ finding row place index word ∷ [] ≡ v.findings ++ finding at.stand.row at.stand.place index word ∷ []
   note_is v row word place index at known = λ j. v.findings ++ finding (sym at.same_row j) (known.of_stand at.stand at.on at.same_row j) index word ∷ []
 
-  -- after a grab that took the row, where the pass left and gave it back, and where it only gave it back
+  -- after a grab that took the row, where the pass left and gave it back
   pub noted_got : (v u w y : PassView R B E) (row : ℕ) (f : Finds row v) (x : R) (at : IsStanding v row) → u ≡ got v row f.place f.generation f.words x → w ≡ left u → y ≡ released w row → Notes v at.stand None 0 y
   noted_got v u w y row f x at e g r = ap (λ (z : PassView R B E). z.findings) (r ∙ ap (λ (z : PassView R B E). released z row) (g ∙ ap left e)) ∙ note_is v row 0 f.place None at f.known
-
-  pub noted_here : (v u w : PassView R B E) (row : ℕ) (f : Finds row v) (x : R) (at : IsStanding v row) → u ≡ got v row f.place f.generation f.words x → w ≡ released u row → Notes v at.stand None 0 w
-  noted_here v u w row f x at e r = ap (λ (z : PassView R B E). z.findings) (r ∙ ap (λ (z : PassView R B E). released z row) e) ∙ note_is v row 0 f.place None at f.known
 
   -- after one that did not take it, where the pass left
   pub noted_missed : (v u w : PassView R B E) (row n : ℕ) (place : Place) (at : IsStanding v row) → IsKnownPlace v row place → u ≡ looked v row place None n → w ≡ left u → Notes v at.stand None n w
@@ -141,14 +146,42 @@ module _ {R B E : Type 0} where
   looked_in v u0 u1 u2 w first second Stale e one two touched epoch = (epoch, went v u0 u1 u2 w first second stale e one two touched)
   looked_in v u0 u1 u2 w first second Worn e one two touched epoch = absurd touched
 
-  -- a row that was got where a held row links it
-  pub got_child : (v w : PassView R B E) (row : ℕ) (f : Finds row v) (x : R) → w ≡ got v row f.place f.generation f.words x → (l : LinksRow v row) → HoldsAt w row (entry_place (levels_of v.layout) l.linker.place l.index)
-  got_child v w row f x e l = subst (λ (z : PassView R B E). HoldsAt z row (entry_place (levels_of v.layout) l.linker.place l.index)) (sym e) (record {
-    known = grabbed row f.place f.generation f.words x;
-    held = last_row v row f.place f.generation f.words x;
-    same_row = refl;
-    same_place = f.known.of_entry l;
-  })
+  -- a row that a held row links
+  pub took_child : (v w : PassView R B E) (row : ℕ) (f : Finds row v) (x : R) → f.content ≡ x → w ≡ got v row f.place f.generation f.words x → (l : LinksRow v row) → Takes v row (entry_place (levels_of v.layout) l.linker.place l.index) (Ok x) w
+  took_child v w row f x is e l = (f, is, e ∙ ap (λ (p : Place). got v row p f.generation f.words x) (f.known.of_entry l))
+
+  pub missed_child : (v w : PassView R B E) (row : ℕ) (place : Place) (holder : Holder) → IsKnownPlace v row place → IsHolder v row holder.0 → w ≡ looked v row place None (held_by holder.0) → (l : LinksRow v row)
+      → Takes v row (entry_place (levels_of v.layout) l.linker.place l.index) (Err holder) w
+  missed_child v w row place holder known holds e l = (holds, e ∙ ap (λ (p : Place). looked v row p None (held_by holder.0)) (known.of_entry l))
+
+  -- a row on which the pass stands
+  pub peeked : (v u w : PassView R B E) (row : ℕ) (f : Finds row v) (x : R) (at : IsStanding v row) → f.content ≡ x → u ≡ got v row f.place f.generation f.words x → w ≡ released u row → Peeks v row at.stand.place (Ok x) w
+  peeked v u w row f x at is e r = ((f, is), r ∙ (ap (λ (y : PassView R B E). released y row) e ∙ back))
+    where
+      same : f.place ≡ at.stand.place
+      same = f.known.of_stand at.stand at.on at.same_row
+
+      none : v.rows ≡ []
+      none = empty_map row_part v.rows (f.right.rows ∙ at.held)
+
+      held : without row (v.core.held ++ row ∷ []) ≡ v.core.held
+      held = ap (λ (l : List ℕ). without row (l ++ row ∷ [])) at.held ∙ (ap (λ (b : Bool). cond (not b) (row ∷ []) []) (eq-eqb row row refl) ∙ sym at.held)
+
+      rows : filter (λ (h : HeldRow R). not (eqb h.row row)) (v.rows ++ grabbed row f.place f.generation f.words x ∷ []) ≡ v.rows
+      rows = ap (λ (l : List (HeldRow R)). filter (λ (h : HeldRow R). not (eqb h.row row)) (l ++ grabbed row f.place f.generation f.words x ∷ [])) none
+          ∙ (ap (λ (b : Bool). cond (not b) (grabbed row f.place f.generation f.words x ∷ []) []) (eq-eqb row row refl) ∙ sym none)
+
+      back : released (got v row f.place f.generation f.words x) row ≡ looked v row at.stand.place None 0
+      back = λ j. record v { core = record v.core { held = held j }; rows = rows j; findings = v.findings ++ finding row (same j) None 0 ∷ [] }
+
+  pub peeked_held : (v w : PassView R B E) (row s : ℕ) (place : Place) (at : IsStanding v row) → IsKnownPlace v row place → IsHolder v row s → w ≡ looked v row place None (held_by s) → Peeks v row at.stand.place (Err (Unseen.Held s)) w
+  peeked_held v w row s place at known holds e = (
+    record { there = holds.there; other = another at holds },
+    e ∙ ap (λ (p : Place). looked v row p None (held_by s)) (known.of_stand at.stand at.on at.same_row),
+  )
+
+  pub peeked_stale : (v w : PassView R B E) (row : ℕ) (place : Place) (at : IsStanding v row) → IsKnownPlace v row place → IsLoose v row → w ≡ looked v row place None stale → Peeks v row at.stand.place (Err Unseen.Stale) w
+  peeked_stale v w row place at known loose e = (loose, e ∙ ap (λ (p : Place). looked v row p None stale) (known.of_stand at.stand at.on at.same_row))
 
   -- a pass that stands on a row stands on it after it had it for a moment, and after it missed it
   pub stands_again : (v u w : PassView R B E) (row : ℕ) (place : Place) (generation : ℕ) (words : List ℕ) (x : R) → IsStanding v row → u ≡ got v row place generation words x → w ≡ released u row → IsStanding w row

@@ -1,20 +1,16 @@
 -- What a caller of a pass knows of it, in the public words alone.
 --     IsStanding      a pass that stands on this row and has nothing
---     HoldsAt      a pass that holds this row at this position
 --     Notes      one finding more, of the row and at the position of a stand
 --     came, WentDown      where a look leads, and what one has done
 --     Touched, Went, LookedIn      what a grab has done that was given back, the way from row 0 on, and what a pass that came and went has done
---     HasAdded, Adds      what a pass has done that took the book for an entry
+--     HasAdded, HasReturned, Adds      what a pass has done that took the book for an entry
 --     Remembers      what a closed table's journal tells of a pass
 use Rattle.std.specs.Prelude.{◌≡◌, ℕ, ◌+◌, ◌^◌, cond, false, List, [], ◌∷◌, ◌++◌, length, Option, Some, None}
-use Rattle.std.specs.List.{Contains}
-use Rattle.table_place.specs.declared.Place.{Place}
 use Rattle.table_place.specs.Place.{entry_place}
 use Rattle.walk_core.specs.declared.pass.Stand.{Stand}
 use Rattle.walk_core.specs.Words.{is_link, link_row, link_generation, held_by, stale}
 use Rattle.walk_core.specs.Events.{top}
 use Rattle.row_table.specs.declared.view.PassView.{PassView}
-use Rattle.row_table.specs.declared.view.HeldRow.{HeldRow}
 use Rattle.row_uses.specs.declared.uses.Visit.{Visit}
 use Rattle.row_uses.specs.declared.uses.Visit.TheVariants.{Got, Held, Stale, Worn}
 use Rattle.row_uses.specs.declared.uses.Addition.{Addition}
@@ -23,7 +19,7 @@ use Rattle.row_table.specs.Plan.{Meaning}
 use Rattle.row_table.specs.Rule.{StartsWith, levels_of, own_places}
 use Rattle.row_table.specs.Known.{IsAnother}
 use Rattle.row_table.specs.Moves.{finding}
-use Rattle.row_table.specs.Books.{waited}
+use Rattle.row_table.specs.Books.{waited, Learns}
 
 -- where a pass stands that read this word in an entry of the row on which it stood
 abbrev pub came : ℕ → Stand → ℕ → ℕ → Stand
@@ -38,13 +34,6 @@ module _ {R B E : Type 0} where
     pub granted : v.core.granted ≡ []
     pub unlinked : v.core.unlinked ≡ []
     pub has_not : v.core.has_book ≡ false
-
-  -- the pass holds the row, at this position
-  pub record HoldsAt (v : PassView R B E) (row : ℕ) (place : Place) : Type 0 where
-    pub known : HeldRow R
-    pub held : Contains v.rows known
-    pub same_row : known.row ≡ row
-    pub same_place : known.place ≡ place
 
   abbrev pub Notes : PassView R B E → Stand → Option ℕ → ℕ → PassView R B E → Type 0
   Notes v s index word w = w.findings ≡ v.findings ++ finding s.row s.place index word ∷ []
@@ -87,10 +76,22 @@ module _ {R B E : Type 0} where
     pub seen : w.seen ≡ before ++ entry ∷ []
     pub mine : w.mine ≡ v.mine ++ length before ∷ []
 
-  abbrev pub Adds : PassView R B E → E → Addition → PassView R B E → Type 0
-  Adds v entry Added w = HasAdded v entry w
-  Adds v entry (Busy holder) w = IsAnother v holder × (w ≡ waited v (held_by holder))
-  Adds v entry NoMemory w = StartsWith w.seen v.seen × (w.mine ≡ v.mine)
+  module _ (M : Meaning R B E) where
+    -- the pass has seen the journal that its turn found, and gave a book back with this journal, in which its own entries are those before
+    pub record HasReturned (v w : PassView R B E) : Type 0 where
+      pub found : B
+      pub learned : Learns M v.layout.rows v found
+      pub seen : w.seen ≡ M.journal found
+      pub mine : w.mine ≡ v.mine
+      pub book : B
+      pub last : w.last ≡ Some book
+      pub same : M.journal book ≡ M.journal found
+
+    -- no memory needs no cause
+    abbrev pub Adds : PassView R B E → E → Addition → PassView R B E → Type 0
+    Adds v entry Added w = HasAdded v entry w
+    Adds v entry (Busy holder) w = IsAnother v holder × (w ≡ waited v (held_by holder))
+    Adds v entry NoMemory w = HasReturned v w
 
   -- the journal goes on from what the pass has seen of it, and the pass's own entries stand at the places that it knows
   pub record Remembers (M : Meaning R B E) (journal : List E) (v : PassView R B E) : Type 0 where

@@ -2,7 +2,7 @@ ghost use Rattle.std.specs.Prelude.{◌≡◌, ◌<◌, ℕ, length, IfOk, IsSom
 ghost use Rattle.row_table.specs.Passes.{view_of, kit_of, table_of, IsPassOf};
 ghost use Rattle.row_table.specs.Close.{IsIdle};
 
-use crate::uses::{Addition, Tally, Visit, add_entry, journal_at_end, look_in, peek};
+use crate::uses::{Addition, Tally, Unseen, Visit, add_entry, journal_at_end, look_in, peek};
 use row_table::{Grabbed, Iron, IronClose, Layout, Pass};
 use std::alloc::{AllocError, Global};
 use std::sync::Wait;
@@ -45,12 +45,12 @@ fn enter_and_grab(iron: &Iron<Tally>, pass: &mut Pass<Tally>) -> Option<Grabbed<
 }
 
 // The pass enters and sees what row 0 holds.
-fn enter_and_peek(iron: &Iron<Tally>, pass: &mut Pass<Tally>) -> Option<u8>
+fn enter_and_peek(iron: &Iron<Tally>, pass: &mut Pass<Tally>) -> Option<Result<u8, Unseen>>
     requires table { IsPassOf iron.now pass.old }
     requires idle { IsIdle (view_of pass.old) }
 {
     match pass.enter(iron) {
-        Ok(()) => peek(iron, pass, 0),
+        Ok(()) => Some(peek(iron, pass, 0)),
         Err(_) => None,
     }
 }
@@ -138,8 +138,10 @@ fn a_held_row_names_its_holder(rt: HostRuntime) -> Result<(), Fail> {
     let (iron, mut first, mut second) = made(rt.alloc())?;
     let got = matches!(enter_and_grab(&iron, &mut first), Some(Grabbed::Got(_)));
     let visit = look_in(&iron, &mut second, 1, 1);
+    let seen = enter_and_peek(&iron, &mut second);
     assert!(rt; got);
     assert_eq!(rt; visit, Visit::Held(0));
+    assert_eq!(rt; seen, Some(Err(Unseen::Held(0))));
     Ok(())
 }
 
@@ -148,8 +150,8 @@ fn a_row_is_given_back_as_it_was(rt: HostRuntime) -> Result<(), Fail> {
     let (iron, mut first, mut second) = made(rt.alloc())?;
     let before = enter_and_peek(&iron, &mut first);
     let after = enter_and_peek(&iron, &mut second);
-    assert_eq!(rt; before, Some(7));
-    assert_eq!(rt; after, Some(7));
+    assert_eq!(rt; before, Some(Ok(7)));
+    assert_eq!(rt; after, Some(Ok(7)));
     Ok(())
 }
 

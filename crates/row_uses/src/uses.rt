@@ -1,5 +1,5 @@
 //! Callers that rely on the public clauses alone.
-ghost use Rattle.std.specs.Prelude.{◌≡◌, ◌≢◌, ◌+◌, ◌<◌, map, true, false, None, MatchOption, OnSome, IfSome};
+ghost use Rattle.std.specs.Prelude.{◌≡◌, ◌≢◌, ◌+◌, ◌<◌, map, true, false, MatchOption, IfSome};
 ghost use Rattle.std.specs.List.{All};
 ghost use Rattle.walk_core.specs.Words.{is_link, link_row};
 ghost use Rattle.row_table.specs.Passes.{view_of, number_of, table_of, layout_of, IsPassOf};
@@ -8,7 +8,8 @@ ghost use Rattle.row_uses.specs.Tally.{tally};
 ghost use Rattle.row_table.specs.Known.{LinksRow};
 ghost use Rattle.row_table.specs.Rule.{levels_of};
 ghost use Rattle.table_place.specs.Place.{entry_place};
-ghost use Rattle.row_uses.specs.Uses.{IsStanding, HoldsAt, Notes, WentDown, Touched, LookedIn, Adds, Remembers};
+ghost use Rattle.row_uses.specs.Uses.{IsStanding, WentDown, Touched, LookedIn, Adds, Remembers};
+ghost use Rattle.row_uses.specs.Takes.{Takes, Peeks};
 
 use row_table::{Grabbed, Iron, IronClose, Pass, Plan, Turned};
 
@@ -40,6 +41,19 @@ pub enum Visit {
     Held(u8),
     Stale,
     Worn,
+}
+
+/// The pass that holds a row.
+#[derive(Debug, PartialEq, Drop)]
+pub struct Holder(pub u8);
+
+/// Why the content of a row was not seen.
+#[derive(Debug, PartialEq, Drop)]
+pub enum Unseen {
+    /// This pass holds the row.
+    Held(u8),
+    /// Nobody may take the row.
+    Stale,
 }
 
 /// What became of an entry.
@@ -128,45 +142,47 @@ pub fn look_in<P: Plan>(iron: &Iron<P>, pass: &mut Pass<P>, first: u32, second: 
     }
 }
 
-/// Takes a row that a held row links, if no other pass holds it. Nobody can have made it stale, and it is where the link leads.
-pub fn take_child<P: Plan>(iron: &Iron<P>, pass: &mut Pass<P>, row: u32) -> Option<P::Row>
+/// Takes a row that a held row links, and answers its content. Where a pass holds the row, this one or another, it answers which.
+/// Nobody can have made the row stale, and it is where the link leads.
+pub fn take_child<P: Plan>(iron: &Iron<P>, pass: &mut Pass<P>, row: u32) -> Result<P::Row, Holder>
     requires table { IsPassOf iron.now pass.old }
     requires linked { LinksRow (view_of pass.old) row }
     ensures table { table_of pass.new ≡ table_of pass.old }
-    ensures child { (l : LinksRow (view_of pass.old) row) → OnSome result (HoldsAt (view_of pass.new) row (entry_place (levels_of (view_of pass.old).layout) l.linker.place l.index)) }
+    ensures takes { (l : LinksRow (view_of pass.old) row) → Takes (view_of pass.old) row (entry_place (levels_of (view_of pass.old).layout) l.linker.place l.index) result (view_of pass.new) }
 {
     match pass.grab(iron, row) {
-        Grabbed::Got(content) => Some(content),
-        Grabbed::Held(_) => None,
+        Grabbed::Got(content) => Ok(content),
+        Grabbed::Held(holder) => Err(Holder(holder)),
         Grabbed::Stale => unreachable!(),
     }
 }
 
-/// What a row holds on which the pass stands, as long as no other pass holds the row. It is given back as it was.
-pub fn peek(iron: &Iron<Tally>, pass: &mut Pass<Tally>, row: u32) -> Option<u8>
+/// What a row holds on which the pass stands. It is given back as it was.
+pub fn peek(iron: &Iron<Tally>, pass: &mut Pass<Tally>, row: u32) -> Result<u8, Unseen>
     requires table { IsPassOf iron.now pass.old }
     requires stands { IsStanding (view_of pass.old) row }
     ensures table { table_of pass.new ≡ table_of pass.old }
     ensures stands { IsStanding (view_of pass.new) row }
-    ensures found { (at : IsStanding (view_of pass.old) row) → OnSome result (Notes (view_of pass.old) at.stand None 0 (view_of pass.new)) }
+    ensures peeks { (at : IsStanding (view_of pass.old) row) → Peeks (view_of pass.old) row at.stand.place result (view_of pass.new) }
 {
     match pass.grab(iron, row) {
         Grabbed::Got(found) => {
             pass.release(iron, row, found);
-            Some(found)
+            Ok(found)
         }
-        Grabbed::Held(_) => None,
-        Grabbed::Stale => None,
+        Grabbed::Held(holder) => Err(Unseen::Held(holder)),
+        Grabbed::Stale => Err(Unseen::Stale),
     }
 }
 
-/// Takes the book if no pass has it, adds an entry of the pass's own, and gives it back.
+/// Takes the book if no pass has it, adds an entry of the pass's own, and gives it back. Where the journal has no room, it is given
+/// back as it was.
 pub fn add_entry(iron: &Iron<Tally>, pass: &mut Pass<Tally>, count: u32) -> Addition
     requires table { IsPassOf iron.now pass.old }
     requires idle { IsIdle (view_of pass.old) }
     ensures table { table_of pass.new ≡ table_of pass.old }
     ensures idle { IsIdle (view_of pass.new) }
-    ensures adds { Adds (view_of pass.old) (number_of pass.old, count) result (view_of pass.new) }
+    ensures adds { Adds tally (view_of pass.old) (number_of pass.old, count) result (view_of pass.new) }
 {
     match pass.turn(iron) {
         Turned::Got(mut entries) => {

@@ -1,4 +1,5 @@
 use Rattle.std.proofs.Common.{◌≡◌, ℕ, sym, ap, ◌∙◌, subst}
+use Rattle.row_layout.specs.declared.places.Layout.{Layout}
 use Rattle.row_uses.specs.Uses.{HasAdded}
 use Rattle.row_uses.proofs.Tally.{View, may_add, added, has_added, none_added}
 use Rattle.row_table.specs.Passes.{view_of, layout_of}
@@ -22,4 +23,4 @@ returns-in-Ok-clause-adds c = let t = c.in-Got.ensures.turns in let names = c.nu
 
 pub returns-in-Err-clause-adds : goal.returns-in-Err-clause-adds
 returns-in-Err-clause-adds c = let t = c.in-Got.ensures.turns in
-    none_added _ _ _ _ c.in-Got.entries c.push-pushed.new.self t.0 t.1 c.give.ensures.gives c.in-Err.ensures.items
+    none_added _ _ _ _ c.in-Got.entries c.push-pushed.new.self (ap (λ (k : Layout). k.rows) c.in-Got.ensures.layout) t.0 t.1 c.give.ensures.gives c.in-Err.ensures.items
