@@ -1,5 +1,5 @@
 -- What a pass of the plan with a list of positions may give that takes two rows, and what it has after each call of a sowing of both.
-use Rattle.std.proofs.Common.{◌≡◌, ◌≢◌, ℕ, ◌<◌, ◌≤◌, eqb, cond, not, Bool, true, false, List, [], ◌∷◌, ◌++◌, map, set, sym, refl, ap, ◌∙◌, subst, ⊎_elim, arith, eq-eqb, ne_eqb, Option, Some, None, MatchOption, ◌+◌, ◌^◌, ◌||◌, get_or, get_or-set_other}
+use Rattle.std.proofs.Common.{◌≡◌, ◌≢◌, ℕ, ◌<◌, ◌≤◌, eqb, cond, not, Bool, true, false, List, [], ◌∷◌, ◌++◌, map, set, sym, refl, ap, ◌∙◌, subst, ⊎_elim, arith, eq-eqb, ne_eqb, Some, None, Result, Ok, Err, MatchResult, ◌+◌, ◌^◌, ◌||◌, get_or, get_or-set_other}
 use Rattle.std.specs.List.{Contains, list_any}
 use Rattle.std.proofs.lemmas.Bool.{cases_lt, cases_Bool}
 use Rattle.table_place.specs.declared.Place.{Place}
@@ -14,13 +14,14 @@ use Rattle.row_layout.specs.declared.places.Layout.{Layout}
 use Rattle.row_table.specs.declared.view.HeldRow.{HeldRow}
 use Rattle.row_table.specs.declared.view.HandRow.{HandRow}
 use Rattle.row_uses.specs.declared.sowing.Seeds.{Seeds}
+use Rattle.row_uses.specs.declared.sowing.Lack.{Lack}
 use Rattle.row_table.specs.Rule.{levels_of}
 use Rattle.row_table.specs.Vacant.{vacant_entries}
 use Rattle.row_table.specs.Moves.{released, Fits, NotInHand}
 use Rattle.row_table.specs.Books.{given, taken_rows, turned, Learns, Gives, MayGive, region}
 use Rattle.row_table.specs.Openings.{prepared, opened, MaySetUp, IsSetUp}
 use Rattle.row_table.specs.Links.{MaySetEntry, Sets}
-use Rattle.row_uses.specs.Sown.{sown, lists, View, SameSeeds, same_place, KeepsListed, MaySowBoth, DrawsBoth, AreSown}
+use Rattle.row_uses.specs.Sown.{sown, lists, View, IsLacking, SameSeeds, same_place, KeepsListed, MaySowBoth, DrawsBoth, AreSown}
 use Rattle.row_table.proofs.Views.{in_head, in_tail}
 use Rattle.row_table.proofs.Vacant.{is_vacant}
 use Rattle.row_uses.proofs.SownPlaces.{few_levels, Splits, splits, touched, same_is, same_self}
@@ -311,7 +312,7 @@ module _ (v0 v1 v2 : View) (book new : Seeds) (row : ℕ) (first second : Bed) (
                   }
 
 -- The give of such a sowing, whether the rows were drawn or not
-pub may_give_both : (k : Layout) (v0 v1 : View) (book new : Seeds) (row : ℕ) (first second : Bed) (rows : ℕ) (drawn : Option ((ℕ × ℕ) × (ℕ × ℕ))) → MaySowBoth v0 row first second → Learns sown rows v0 book → rows ≤ 1024 → v1 ≡ turned sown v0 book
-    → MatchOption drawn (SameSeeds book new) (λ r. DrawsBoth book first.place second.place r.0 r.1 new) → MayGive sown k v1 book new
-may_give_both k v0 v1 book new row first second rows None may learns few e1 same = may_return k v1 book new same (ap (λ (v : View). v.core.has_book) e1) (λ q. let o = learns.once q in omega arith)
-may_give_both k v0 v1 book new row first second rows (Some r) may learns few e1 draws = may_give_both_drawn v0 v1 v1 book new row first second r.0 r.1 rows may learns few e1 draws k
+pub may_give_both : (k : Layout) (v0 v1 : View) (book new : Seeds) (row : ℕ) (first second : Bed) (rows : ℕ) (drawn : Result ((ℕ × ℕ) × (ℕ × ℕ)) Lack) → MaySowBoth v0 row first second → Learns sown rows v0 book → rows ≤ 1024 → v1 ≡ turned sown v0 book
+    → MatchResult drawn (λ r. DrawsBoth book first.place second.place r.0 r.1 new) (λ lack. IsLacking 2 lack book × SameSeeds book new) → MayGive sown k v1 book new
+may_give_both k v0 v1 book new row first second rows (Err lack) may learns few e1 draws = may_return k v1 book new draws.1 (ap (λ (v : View). v.core.has_book) e1) (λ q. let o = learns.once q in omega arith)
+may_give_both k v0 v1 book new row first second rows (Ok r) may learns few e1 draws = may_give_both_drawn v0 v1 v1 book new row first second r.0 r.1 rows may learns few e1 draws k

@@ -1,5 +1,5 @@
 -- What a pass of the plan with a list of positions has that takes row 1, sows below it and gives it back.
-use Rattle.std.proofs.Common.{◌≡◌, ℕ, ◌-◌, ⊎_elim, cond, Bool, true, false, List, [], ◌∷◌, ◌++◌, map, length, sym, refl, ap, ◌∙◌, subst, inl, arith, Option, Some, None}
+use Rattle.std.proofs.Common.{◌≡◌, ℕ, ◌-◌, ⊎_elim, cond, Bool, true, false, List, [], ◌∷◌, ◌++◌, map, length, sym, refl, ap, ◌∙◌, subst, inl, arith, Some, None, Result, Ok, Err}
 use Rattle.std.specs.List.{Contains, list_any, range_with_len}
 use mathlib.Core.Option.{some}
 use lib.ListN.{get_elem?}
@@ -24,9 +24,11 @@ use Rattle.row_table.specs.Looks.{looked_at, Reads}
 use Rattle.row_table.specs.Close.{IsIdle}
 use Rattle.row_table.specs.Start.{MayStart}
 use Rattle.row_uses.specs.declared.sowing.Seeds.{Seeds}
+use Rattle.row_uses.specs.declared.sowing.Unsown.{Unsown}
 use Rattle.row_uses.specs.Sown.{same_place, sown, View, HoldsAlone, KeepsRow, Sows, MaySowBoth, SowsBoth, bed, next_bed, HasRoot, HasBeds}
 use Rattle.row_table.proofs.Views.{in_head}
 use Rattle.row_uses.proofs.Grafts.{root_link, root_is_link}
+use Rattle.row_uses.proofs.SownSteps.{still_kept}
 use Rattle.row_uses.proofs.Visits.{empty_map}
 
 -- where the first look led it
@@ -127,9 +129,9 @@ still_has v w x words root keeps = record {
   outside = keeps.stand ∙ root.outside;
 }
 
-pub after_one : (v w : View) (x : Bool) (o : Option ℕ) → HasRoot v x → Sows v 1 5 bed o w → StillHas w x
-after_one v w x None root sows = still_has v w x root.may.known.words root (sows root.may)
-after_one v w x (Some child) root sows = still_has v w x _ root (sows root.may).keeps
+pub after_one : (v w : View) (x : Bool) (o : Result ℕ Unsown) → HasRoot v x → Sows v 1 5 bed o w → StillHas w x
+after_one v w x (Err why) root sows = still_has v w x root.may.known.words root (still_kept 1 v w root.may.known why root.may.alone (sows root.may))
+after_one v w x (Ok child) root sows = still_has v w x _ root (sows root.may).keeps
 
 abbrev pub may_both : (v : View) (x : Bool) → HasBeds v x → MaySowBoth v 1 (record { index = 5; place = bed }) (record { index = 6; place = next_bed })
 may_both v x beds = record {
@@ -141,9 +143,9 @@ may_both v x beds = record {
   apart = λ e. omega arith;
 }
 
-pub after_both : (v w : View) (x : Bool) (o : Option (ℕ × ℕ)) → HasBeds v x → SowsBoth v 1 (record { index = 5; place = bed }) (record { index = 6; place = next_bed }) o w → StillHas w x
-after_both v w x None beds sows = still_has v w x beds.root.may.known.words beds.root (sows (may_both v x beds))
-after_both v w x (Some r) beds sows = still_has v w x _ beds.root (sows (may_both v x beds)).keeps
+pub after_both : (v w : View) (x : Bool) (o : Result (ℕ × ℕ) Unsown) → HasBeds v x → SowsBoth v 1 (record { index = 5; place = bed }) (record { index = 6; place = next_bed }) o w → StillHas w x
+after_both v w x (Err why) beds sows = still_has v w x beds.root.may.known.words beds.root (still_kept 2 v w beds.root.may.known why beds.root.may.alone (sows (may_both v x beds)))
+after_both v w x (Ok r) beds sows = still_has v w x _ beds.root (sows (may_both v x beds)).keeps
 
 pub may_give_back_root : (w : View) (x : Bool) → StillHas w x → NotInHand w 1 × Fits sown w 1 x
 may_give_back_root w x s = (

@@ -1,5 +1,5 @@
 -- What a pass of the plan with a list of positions may give, what each call of a sowing makes of a pass, and what it has after the sowing of a row.
-use Rattle.std.proofs.Common.{◌≡◌, ◌≢◌, ℕ, ◌<◌, ◌≤◌, ◌⊎◌, eqb, cond, not, Bool, true, false, List, [], ◌∷◌, ◌++◌, map, length, set, inr, sym, refl, ap, ◌∙◌, subst, ⊎_elim, arith, eq-eqb, ne_eqb, append-nil, Option, Some, None, MatchOption, ◌+◌, ◌^◌, get_or}
+use Rattle.std.proofs.Common.{◌≡◌, ◌≢◌, ℕ, ◌<◌, ◌≤◌, ◌⊎◌, eqb, cond, not, Bool, true, false, List, [], ◌∷◌, ◌++◌, map, length, set, inr, sym, refl, ap, ◌∙◌, subst, ⊎_elim, arith, eq-eqb, ne_eqb, append-nil, Option, Some, None, Result, Ok, Err, MatchResult, ◌+◌, ◌^◌, get_or}
 use Rattle.std.specs.List.{Contains, filter, AllByRecursion, list_any}
 use Rattle.std.proofs.lemmas.Bool.{cases_lt}
 use mathlib.Core.Logic.{dite}
@@ -10,7 +10,7 @@ use Rattle.walk_core.specs.declared.event.SetPart.TheVariants.{Position, Generat
 use Rattle.walk_core.specs.declared.lists.PutRow.{PutRow}
 use Rattle.walk_core.specs.declared.pass.GrantedRow.{GrantedRow}
 use Rattle.walk_core.specs.declared.pass.Stand.{Stand}
-use Rattle.walk_core.specs.Words.{is_link, link_row, link_generation, link_word}
+use Rattle.walk_core.specs.Words.{is_link, link_row, link_generation, link_word, held_by}
 use Rattle.walk_core.specs.Lists.{times, Has, without, minus, among}
 use Rattle.walk_core.specs.Events.{newly_granted, granted_after_part, granted_after_entry, with_part, unlinked_after_give}
 use Rattle.walk_core.specs.Guards.{put_rows, MayPut}
@@ -20,13 +20,16 @@ use Rattle.row_layout.specs.declared.places.Layout.{Layout}
 use Rattle.row_table.specs.declared.view.HeldRow.{HeldRow}
 use Rattle.row_table.specs.declared.view.HandRow.{HandRow}
 use Rattle.row_uses.specs.declared.sowing.Seeds.{Seeds}
+use Rattle.row_uses.specs.declared.sowing.Lack.{Lack}
+use Rattle.row_uses.specs.declared.sowing.Unsown.{Unsown}
+use Rattle.row_uses.specs.declared.sowing.Unsown.TheVariants.{Busy, Lacks}
 use Rattle.row_table.specs.Rule.{levels_of, hand_part}
 use Rattle.row_table.specs.Vacant.{all_entries, vacant_entries}
 use Rattle.row_table.specs.Moves.{released, Fits, NotInHand}
 use Rattle.row_table.specs.Books.{given, hand_rows, swept_rows, taken_rows, put_list, book_core, turned, waited, Learns, Gives, MayGive, region}
 use Rattle.row_table.specs.Openings.{with_place, with_number, opened_row, prepared, opened, MaySetUp, IsSetUp}
 use Rattle.row_table.specs.Links.{with_word, newly_linked, with_link, link_set, word_set, MaySetEntry, Sets}
-use Rattle.row_uses.specs.Sown.{sown, lists, View, HoldsAlone, MaySow, SameSeeds, Draws, KeepsRow, IsSown, same_place, KeepsListed}
+use Rattle.row_uses.specs.Sown.{sown, lists, View, HoldsAlone, MaySow, SameSeeds, Draws, IsLacking, KeepsRow, IsSown, IsUnsown, Fails, same_place, KeepsListed}
 use Rattle.row_table.proofs.Views.{in_head, in_tail}
 use Rattle.row_table.proofs.Turns.{has_contained}
 use Rattle.row_table.proofs.Beside.{has_part}
@@ -188,6 +191,23 @@ pub kept_undrawn : (k : Layout) (v0 v1 v2 : View) (book new : Seeds) (h : HeldRo
 kept_undrawn k v0 v1 v2 book new h rows alone learns e1 g same =
     let taken : taken_rows sown g.old new ≡ [] = ap (λ (b : Seeds). taken_rows sown b new) (old_is v0 v1 v2 book new e1 g) ∙ no_taken k v1 book new same (ap (λ (v : View). v.core.has_book) e1) (λ q. let o = learns.once q in omega arith) in
     keeps_after v0 v2 h (given h) book new rows alone learns (gave_stage v0 v1 v2 book new h [] rows alone learns e1 g taken) refl refl refl (lists_same k v1 book new same h.place)
+
+-- what a sowing answers that the book lacked something for
+pub is_unsown : (k : Layout) (v0 v1 v2 : View) (book new : Seeds) (h : HeldRow Bool) (rows count : ℕ) (lack : Lack) → v0.layout.rows ≡ rows → HoldsAlone v0 h → Learns sown rows v0 book → v1 ≡ turned sown v0 book → Gives sown v1 new v2
+    → IsLacking count lack book × SameSeeds book new → IsUnsown count lack v0 h v2
+is_unsown k v0 v1 v2 book new h rows count lack layout alone learns e1 g drawn = record {
+  found = book;
+  learned = subst (λ (n : ℕ). Learns sown n v0 book) (sym layout) learns;
+  lacks = drawn.0;
+  book = new;
+  last = ap (λ (v : View). v.last) g.after;
+  same = drawn.1;
+  keeps = kept_undrawn k v0 v1 v2 book new h rows alone learns e1 g drawn.1;
+}
+
+pub still_kept : (count : ℕ) (v w : View) (h : HeldRow Bool) (why : Unsown) → HoldsAlone v h → Fails count v h why w → KeepsRow v h h.words w
+still_kept count v w h (Busy holder) alone fails = kept_waiting v w h (held_by holder) alone fails.1
+still_kept count v w h (Lacks lack) alone fails = fails.keeps
 
 -- Rows of the hand that are set up
 
@@ -484,7 +504,7 @@ module _ (v0 v1 v2 : View) (book new : Seeds) (row index : ℕ) (place : Place) 
             }
 
 -- The give of a sowing, whether a row was drawn or not
-pub may_give_back : (k : Layout) (v0 v1 : View) (book new : Seeds) (row index : ℕ) (place : Place) (rows : ℕ) (drawn : Option (ℕ × ℕ)) → MaySow v0 row index place → Learns sown rows v0 book → rows ≤ 1024 → v1 ≡ turned sown v0 book
-    → MatchOption drawn (SameSeeds book new) (λ r. Draws book place r.0 r.1 new) → MayGive sown k v1 book new
-may_give_back k v0 v1 book new row index place rows None may learns few e1 same = may_return k v1 book new same (ap (λ (v : View). v.core.has_book) e1) (λ q. let o = learns.once q in omega arith)
-may_give_back k v0 v1 book new row index place rows (Some r) may learns few e1 draws = may_give_drawn v0 v1 v1 book new row index place r.0 r.1 rows may learns few e1 draws k
+pub may_give_back : (k : Layout) (v0 v1 : View) (book new : Seeds) (row index : ℕ) (place : Place) (rows : ℕ) (drawn : Result (ℕ × ℕ) Lack) → MaySow v0 row index place → Learns sown rows v0 book → rows ≤ 1024 → v1 ≡ turned sown v0 book
+    → MatchResult drawn (λ r. Draws book place r.0 r.1 new) (λ lack. IsLacking 1 lack book × SameSeeds book new) → MayGive sown k v1 book new
+may_give_back k v0 v1 book new row index place rows (Err lack) may learns few e1 draws = may_return k v1 book new draws.1 (ap (λ (v : View). v.core.has_book) e1) (λ q. let o = learns.once q in omega arith)
+may_give_back k v0 v1 book new row index place rows (Ok r) may learns few e1 draws = may_give_drawn v0 v1 v1 book new row index place r.0 r.1 rows may learns few e1 draws k

@@ -5,21 +5,29 @@
 --     MaySow      a new row may be linked at an entry of the only row that the pass holds, at this position
 --     bed, next_bed, HasRoot, HasBeds      the positions below entries 5 and 6 of the root of space 0, and what a pass has that may sow there
 --     SameSeeds, Draws      a book that is as it was, and one from which a row and a generation were taken and that lists one position more
---     KeepsRow, IsSown, Sows      the pass still holds the row, a new row is linked, and what a sowing does
+--     IsLacking      what a book lacks for so many rows
+--     KeepsRow, IsSown      the pass still holds the row, and a new row is linked
+--     IsUnsown, Fails, Sows      the book lacked something, nothing was sown, and what a sowing does
 --     MaySowBoth, DrawsBoth, AreSown, SowsBoth      the same of two rows at once
-use Rattle.std.specs.Prelude.{◌≡◌, ◌≢◌, ℕ, ◌+◌, ◌^◌, ◌<◌, ◌≤◌, ⊤, Bool, true, false, ◌&&◌, List, [], ◌∷◌, ◌++◌, slice_index, slice_set, nat_eq, Option, None, Some}
+use Rattle.std.specs.Prelude.{◌≡◌, ◌≢◌, ℕ, ◌+◌, ◌^◌, ◌<◌, ◌≤◌, ⊤, Bool, true, false, ◌&&◌, List, [], ◌∷◌, ◌++◌, length, slice_index, slice_set, nat_eq, None, Some, Result, Ok, Err}
 use Rattle.std.specs.List.{list_any}
 use Rattle.std.proofs.Common.{sym, refl, inl, ◌∙◌}
 use Rattle.table_place.specs.declared.Place.{Place}
 use Rattle.table_place.specs.Place.{directory, entry_place, is_place}
-use Rattle.walk_core.specs.Words.{is_link, link_row}
+use Rattle.walk_core.specs.Words.{is_link, link_row, held_by}
 use Rattle.row_table.specs.declared.view.PassView.{PassView}
 use Rattle.row_table.specs.declared.view.HeldRow.{HeldRow}
 use Rattle.row_uses.specs.declared.sowing.Seeds.{Seeds}
 use Rattle.row_uses.specs.declared.sowing.Bed.{Bed}
+use Rattle.row_uses.specs.declared.sowing.Lack.{Lack}
+use Rattle.row_uses.specs.declared.sowing.Lack.TheVariants.{Rows, Generations, Memory}
+use Rattle.row_uses.specs.declared.sowing.Unsown.{Unsown}
+use Rattle.row_uses.specs.declared.sowing.Unsown.TheVariants.{Busy, Lacks}
 use Rattle.row_table.specs.Plan.{Region, IsUntouched, Meaning, IsLawful}
 use Rattle.row_table.specs.Rule.{levels_of}
+use Rattle.row_table.specs.Known.{IsAnother}
 use Rattle.row_table.specs.Moves.{Fits}
+use Rattle.row_table.specs.Books.{waited, Learns}
 
 -- The plan
 
@@ -113,6 +121,12 @@ pub record Draws (old : Seeds) (place : Place) (child generation : ℕ) (new : S
   pub listed : new.listed.items ≡ old.listed.items ++ place ∷ []
   pub few : generation < 2 ^ 30
 
+-- why a book has not so many rows for new tables; memory may be wanting at any time
+abbrev pub IsLacking : ℕ → Lack → Seeds → Type 0
+IsLacking count Rows b = length b.free.items < count
+IsLacking count Generations b = (count ≤ length b.free.items) × (2 ^ 30 < b.next + count)
+IsLacking count Memory b = (count ≤ length b.free.items) × (b.next + count ≤ 2 ^ 30)
+
 -- The pass holds the row alone at its position, with these entry words, and stands where it stood. What it could give the row back with, it can give it back with.
 pub record KeepsRow (v : View) (h : HeldRow Bool) (words : List ℕ) (w : View) : Type 0 where
   pub after : HeldRow Bool
@@ -134,9 +148,24 @@ pub record IsSown (v : View) (h : HeldRow Bool) (index : ℕ) (place : Place) (c
   pub last : w.last ≡ Some book
   pub listed : lists book place ≡ true
 
-abbrev pub Sows : (v : View) (row index : ℕ) → Place → Option ℕ → View → Type 0
-Sows v row index place None w = (may : MaySow v row index place) → KeepsRow v may.known may.known.words w
-Sows v row index place (Some child) w = (may : MaySow v row index place) → IsSown v may.known index place child w
+-- the book that the turn found lacks this for so many rows, and was given back as it was; the pass holds the row as before
+pub record IsUnsown (count : ℕ) (lack : Lack) (v : View) (h : HeldRow Bool) (w : View) : Type 0 where
+  pub found : Seeds
+  pub learned : Learns sown v.layout.rows v found
+  pub lacks : IsLacking count lack found
+  pub book : Seeds
+  pub last : w.last ≡ Some book
+  pub same : SameSeeds found book
+  pub keeps : KeepsRow v h h.words w
+
+-- another pass has the book, and nothing has changed but what the turn found; or the book lacks something
+abbrev pub Fails : ℕ → View → HeldRow Bool → Unsown → View → Type 0
+Fails count v h (Busy holder) w = IsAnother v holder × (w ≡ waited v (held_by holder))
+Fails count v h (Lacks lack) w = IsUnsown count lack v h w
+
+abbrev pub Sows : (v : View) (row index : ℕ) → Place → Result ℕ Unsown → View → Type 0
+Sows v row index place (Err why) w = (may : MaySow v row index place) → Fails 1 v may.known why w
+Sows v row index place (Ok child) w = (may : MaySow v row index place) → IsSown v may.known index place child w
 
 -- Two rows at once
 
@@ -172,6 +201,6 @@ pub record AreSown (v : View) (h : HeldRow Bool) (first second : Bed) (a b : ℕ
   pub listed : lists book first.place ≡ true
   pub listed_after : lists book second.place ≡ true
 
-abbrev pub SowsBoth : (v : View) (row : ℕ) → Bed → Bed → Option (ℕ × ℕ) → View → Type 0
-SowsBoth v row first second None w = (may : MaySowBoth v row first second) → KeepsRow v may.one.known may.one.known.words w
-SowsBoth v row first second (Some r) w = (may : MaySowBoth v row first second) → AreSown v may.one.known first second r.0 r.1 w
+abbrev pub SowsBoth : (v : View) (row : ℕ) → Bed → Bed → Result (ℕ × ℕ) Unsown → View → Type 0
+SowsBoth v row first second (Err why) w = (may : MaySowBoth v row first second) → Fails 2 v may.one.known why w
+SowsBoth v row first second (Ok r) w = (may : MaySowBoth v row first second) → AreSown v may.one.known first second r.0 r.1 w

@@ -3,7 +3,7 @@ ghost use Rattle.row_table.specs.Passes.{view_of, IsPassOf};
 ghost use Rattle.row_table.specs.Close.{IsIdle};
 ghost use Rattle.row_uses.specs.Sown.{HasBeds};
 
-use crate::sowing::{Bed, Field, Seeds, sow, sow_both};
+use crate::sowing::{Bed, Field, Lack, Seeds, Unsown, sow, sow_both};
 use row_table::{Grabbed, Iron, IronClose, Layout, Parts, Pass};
 use std::alloc::{AllocError, Global};
 use std::test::Fail;
@@ -88,7 +88,10 @@ fn take_root(iron: &Iron<Field>, mut pass: Pass<Field>) -> Option<(Pass<Field>, 
 }
 
 // Takes the root of space 0, sows below it, and gives it back with what it held.
-fn sow_below_root(iron: &Iron<Field>, pass: Pass<Field>) -> Option<(Pass<Field>, Option<u32>)>
+fn sow_below_root(
+    iron: &Iron<Field>,
+    pass: Pass<Field>,
+) -> Option<(Pass<Field>, Result<u32, Unsown>)>
     requires table { IsPassOf iron.now pass }
     requires idle { IsIdle (view_of pass) }
     ensures { MatchOption result ⊤ (λ r. IsPassOf iron.now r.0 × IsIdle (view_of r.0)) }
@@ -108,7 +111,7 @@ fn sow_below_root(iron: &Iron<Field>, pass: Pass<Field>) -> Option<(Pass<Field>,
 fn sow_both_below_root(
     iron: &Iron<Field>,
     pass: Pass<Field>,
-) -> Option<(Pass<Field>, Option<(u32, u32)>)>
+) -> Option<(Pass<Field>, Result<(u32, u32), Unsown>)>
     requires table { IsPassOf iron.now pass }
     requires idle { IsIdle (view_of pass) }
     ensures { MatchOption result ⊤ (λ r. IsPassOf iron.now r.0 × IsIdle (view_of r.0)) }
@@ -136,7 +139,10 @@ fn sow_both_below_root(
 }
 
 // What a table with so many rows is closed into after a sowing, and the row that was linked.
-fn sown(alloc: Global, count: u32) -> Result<Option<(Parts<Field>, Option<u32>)>, AllocError>
+fn sown(
+    alloc: Global,
+    count: u32,
+) -> Result<Option<(Parts<Field>, Result<u32, Unsown>)>, AllocError>
     requires { (2 ≤ count) × (count ≤ 1024) }
 {
     let (iron, pass) = made(alloc, count)?;
@@ -155,7 +161,7 @@ fn sown(alloc: Global, count: u32) -> Result<Option<(Parts<Field>, Option<u32>)>
 fn sown_both(
     alloc: Global,
     count: u32,
-) -> Result<Option<(Parts<Field>, Option<(u32, u32)>)>, AllocError>
+) -> Result<Option<(Parts<Field>, Result<(u32, u32), Unsown>)>, AllocError>
     requires { (2 ≤ count) × (count ≤ 1024) }
 {
     let (iron, pass) = made(alloc, count)?;
@@ -177,7 +183,7 @@ fn a_sown_row_is_found_with_its_content(rt: HostRuntime) -> Result<(), Fail> {
     };
     let book = &parts.book;
     let words = parts.words.as_slice();
-    assert_eq!(rt; child, Some(2));
+    assert_eq!(rt; child, Ok(2));
     assert_eq!(rt; parts.rows.as_slice(), [false, false, true].as_slice());
     assert_eq!(rt; (book.free.len(), book.limbo.len(), book.next), (0, 0, 3));
     assert_eq!(rt; book.listed.as_slice(), [BED].as_slice());
@@ -199,7 +205,7 @@ fn nothing_is_sown_without_a_free_row(rt: HostRuntime) -> Result<(), Fail> {
         return Err(Fail::from(AllocError));
     };
     let book = &parts.book;
-    assert_eq!(rt; child, None);
+    assert_eq!(rt; child, Err(Unsown::Lacks(Lack::Rows)));
     assert_eq!(rt; parts.rows.as_slice(), [false, false].as_slice());
     assert_eq!(rt; (book.listed.len(), book.next), (0, 2));
     assert_eq!(rt; parts.words.get(515 + 5), Some(&0));
@@ -212,7 +218,7 @@ fn two_rows_are_sown_with_one_hold_of_the_book(rt: HostRuntime) -> Result<(), Fa
         return Err(Fail::from(AllocError));
     };
     let book = &parts.book;
-    assert_eq!(rt; children, Some((4, 3)));
+    assert_eq!(rt; children, Ok((4, 3)));
     assert_eq!(rt;
         parts.rows.as_slice(),
         [false, false, false, true, true].as_slice()
