@@ -14,7 +14,7 @@ use Rattle.walk_core.specs.Core.{Core, word, pass_at, idle, granted_rows, times_
 use Rattle.walk_core.specs.Events.{pass_of, place_of, pass_after, free_after, limbo_after}
 use Rattle.walk_core.specs.Guards.{Guard}
 use Rattle.walk_core.specs.Good.{Good, LockSays, says_free, says_held, says_stale}
-use Rattle.walk_core.proofs.RowLists.{times-cons, times-cons_same}
+use Rattle.walk_core.proofs.RowLists.{times-cons, times-cons_same, has_part, head_or_later}
 use Rattle.walk_core.proofs.Facts.{hand-le-out, out-le-one, hand_there, held_alone, stale_unheld}
 use Rattle.row_layout.specs.declared.places.Layout.{Layout}
 use Rattle.row_table.specs.declared.view.PassView.{PassView}
@@ -25,7 +25,7 @@ use Rattle.row_table.specs.Rule.{Homes, Table, levels_of, row_part, hand_part, c
 use Rattle.row_table.proofs.Shown.{ShowsSame, shows_same}
 use Rattle.row_table.proofs.Hands.{rows_granted}
 use Rattle.row_table.proofs.Frames.{RowHome, words_after, moved, home_of, home_moves}
-use Rattle.row_table.proofs.Views.{head_or_later, pass_is, not_in_hand}
+use Rattle.row_table.proofs.Views.{pass_is, not_in_hand}
 use Rattle.row_table.proofs.Known.{held_below}
 
 -- Hands
@@ -58,12 +58,6 @@ hand_stale c p r g there mine closed = says (word c (lock_at r)) refl (g.locks.r
     says n is (says_stale shown out) = is ∙ shown
 
 -- the rows of a list
-
-pub has_part : {X : Type 0} (f : X → ℕ) (xs : List X) (x : X) → Contains xs x → Has (map f xs) (f x)
-has_part f [] x c = let h = c.1 in absurd (omega arith)
-has_part f (y ∷ ys) x c = let n = times-cons (f x) (f y) (map f ys) in ⊎_elim
-    (λ (z : y ≡ x). let one = times-cons_same (f x) (f y) (map f ys) (ap f z) in omega arith)
-    (λ (l : Contains ys x). let o = has_part f ys x l in omega arith) (head_or_later y ys x c)
 
 pub not_part : {X : Type 0} (f : X → ℕ) (xs : List X) (rows : List ℕ) (r : ℕ) → map f xs ≡ rows → times r rows ≡ 0 → (x : X) → Contains xs x → f x ≢ r
 not_part f xs rows r same none x i e = let has = has_part f xs x i in let a = ap (times (f x)) same in let b = ap (λ (q : ℕ). times q rows) e in omega arith

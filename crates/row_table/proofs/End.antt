@@ -18,7 +18,7 @@ use Rattle.walk_core.specs.declared.pass.GrantedRow.{GrantedRow}
 use Rattle.walk_core.specs.declared.pass.UnlinkedRow.{UnlinkedRow}
 use Rattle.walk_core.specs.Core.{Core, word, pass_at, idle, times_in_hand, times_out, IsLinked}
 use Rattle.walk_core.specs.Good.{Good, LockSays, says_free, says_held, says_stale}
-use Rattle.walk_core.proofs.RowLists.{times-nil, times-cons_other}
+use Rattle.walk_core.proofs.RowLists.{times-nil, times-cons_other, in_head, in_tail}
 use Rattle.walk_core.proofs.Facts.{out-le-one, free_linked}
 use Rattle.walk_core.proofs.Keeps.{found_is, found_there}
 use Rattle.row_layout.specs.declared.places.Layout.{Layout}
@@ -86,8 +86,8 @@ module _ {R B E : Type 0} where
   numbered : (vs : List (PassView R B E)) (p : ℕ) → Has (map (λ v. v.number) vs) p → (v : PassView R B E) × Contains vs v × (v.number ≡ p)
   numbered [] p i = let z = times-nil p in absurd (omega arith)
   numbered (x ∷ xs) p i = dite (ℕ_discrete x.number p)
-      (λ e. (x, Rattle.row_table.proofs.Views.in_head x xs, e))
-      (λ ne. let n = times-cons_other p x.number (map (λ v. v.number) xs) ne in let o = numbered xs p (omega arith) in (o.0, Rattle.row_table.proofs.Views.in_tail x xs o.0 o.1, o.2))
+      (λ e. (x, in_head x xs, e))
+      (λ ne. let n = times-cons_other p x.number (map (λ v. v.number) xs) ne in let o = numbered xs p (omega arith) in (o.0, in_tail x xs o.0 o.1, o.2))
 
   module _ (M : Meaning R B E) where
     pub joins : (k : Layout) (first : B) (id other : ℕ) (vs us : List (PassView R B E)) → Joins (Holds M k first) id vs other us (vs ++ us) []
@@ -224,7 +224,7 @@ module _ {R B E : Type 0} where
 -- Lists that are read one by one
 
 pub all_of : {A : Type 0} (P : A → Type 0) (ys zs all : List A) (x : A) → ys ++ x ∷ zs ≡ all → All P all → P x
-all_of P ys zs all x is every = All-contains P all x every (subst (λ (l : List _). Contains l x) is (Contains-append_right ys (x ∷ zs) x (Rattle.row_table.proofs.Views.in_head x zs)))
+all_of P ys zs all x is every = All-contains P all x every (subst (λ (l : List _). Contains l x) is (Contains-append_right ys (x ∷ zs) x (in_head x zs)))
 
 pub take_next : {A : Type 0} (l : List A) (i : ℕ) (x : A) → get_elem? l i ≡ some x → take (suc i) l ≡ take i l ++ x ∷ []
 take_next [] i x e = absurd (some-ne-none x (sym e))

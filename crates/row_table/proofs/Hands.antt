@@ -10,11 +10,10 @@ use Rattle.walk_core.specs.declared.pass.GrantedRow.{GrantedRow}
 use Rattle.walk_core.specs.Lists.{Has}
 use Rattle.walk_core.specs.Core.{set_up}
 use Rattle.walk_core.specs.Events.{with_part, granted_after_part}
-use Rattle.walk_core.proofs.RowLists.{times-nil, times-cons_other}
+use Rattle.walk_core.proofs.RowLists.{times-nil, times-cons_other, in_head, in_tail}
 use Rattle.row_table.specs.declared.view.HandRow.{HandRow}
 use Rattle.row_table.specs.Rule.{hand_part, hand_state, granted_state}
 use Rattle.row_table.specs.Openings.{with_place, with_number}
-use Rattle.row_table.proofs.Views.{in_head, in_tail}
 
 -- Maps
 

@@ -1,3 +1,4 @@
+pub mod Blank
 pub mod Stacks
 pub mod Shown
 pub mod Frames

@@ -16,7 +16,7 @@ use Rattle.walk_core.specs.Lists.{times, Has, among, without}
 use Rattle.walk_core.specs.Core.{Core, word, place_in, granted_rows, times_in_hand, times_out, IsLinked}
 use Rattle.walk_core.specs.Events.{granted_after_entry, newly_unlinked}
 use Rattle.walk_core.specs.Guards.{MayMap, MayLink}
-use Rattle.walk_core.proofs.RowLists.{times-nil, times_kept, times_without_same, times_without_le, among_has}
+use Rattle.walk_core.proofs.RowLists.{times-nil, times_kept, times_without_same, times_without_le, among_has, has_part}
 use Rattle.walk_core.proofs.Spellings.{zero_no_link, leaf_no_link}
 use Rattle.walk_core.proofs.Tree.{linker_linked}
 use Rattle.walk_core.proofs.Facts.{hand-le-out}
@@ -35,10 +35,10 @@ use Rattle.row_table.proofs.Shown.{word_at, words_long}
 use Rattle.row_table.proofs.Hands.{rows_granted, states_kept}
 use Rattle.row_table.proofs.Views.{kept, pass_is, held_of_row, has_held, is_linked}
 use Rattle.row_table.proofs.Turns.{same_parts, contained_map}
-use Rattle.row_table.proofs.Spans.{level_of, below_is, entry_page}
 use Rattle.row_table.proofs.Vacant.{entry_below}
 use Rattle.row_table.proofs.Openings.{levels_low}
-use Rattle.row_table.proofs.Beside.{has_part, unique_part, held_once, others_show, epochs_stay, moved_beside, no_other_held}
+use Rattle.row_table.proofs.Beside.{unique_part, held_once, others_show, epochs_stay, moved_beside, no_other_held}
+use Rattle.table_place.proofs.Entries.{level_of, below_is, entry_page}
 
 -- Words of a row
 

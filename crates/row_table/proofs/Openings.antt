@@ -21,7 +21,7 @@ use Rattle.walk_core.specs.Lists.{times, Has}
 use Rattle.walk_core.specs.Core.{Core, pass_at, granted_rows, granted_at, set_up, times_in_hand, times_out}
 use Rattle.walk_core.specs.Events.{granted_after_part, place_of}
 use Rattle.walk_core.specs.Guards.{MayWrite}
-use Rattle.walk_core.proofs.RowLists.{granted_found}
+use Rattle.walk_core.proofs.RowLists.{granted_found, head_or_later, in_head, in_tail, has_part, in_map}
 use Rattle.walk_core.proofs.Facts.{hand-le-out, hand_there}
 use Rattle.walk_core.proofs.KeepsRows.{part_keeps_rows, is_place_low, prefix_low}
 use Rattle.walk_core.proofs.Spellings.{place_shown-position_word}
@@ -38,23 +38,14 @@ use Rattle.row_table.specs.Openings.{with_place, with_number, opened_row, placed
 use Rattle.row_table.proofs.Shown.{same_on, lock_shows}
 use Rattle.row_table.proofs.Hands.{rows_granted, states_placed, states_numbered, found_set_up, set_in_hand}
 use Rattle.row_table.proofs.Frames.{moved_here, knows_shown, contents_locked}
-use Rattle.row_table.proofs.Views.{head_or_later, in_head, in_tail, pass_is}
+use Rattle.row_table.proofs.Views.{pass_is}
 use Rattle.row_table.proofs.Turns.{contained_map}
-use Rattle.row_table.proofs.Beside.{hand_stale, has_part, not_part, unique_part, hand_once, us, others_show, epochs_stay, moved_beside, no_other_hand}
+use Rattle.row_table.proofs.Beside.{hand_stale, not_part, unique_part, hand_once, us, others_show, epochs_stay, moved_beside, no_other_hand}
 
 -- the words of a row without entries
 pub blank_is : (ws : List ℕ) (r : ℕ) → ((i : ℕ) → i < 512 → get_or ws (entry_at r i) 0 ≡ 0) → row_words ws r ≡ blank_words
 unfolding row_words blank_words
 blank_is ws r zeros = same_on (λ (j : ℕ). get_or ws (entry_at r j) 0) (λ (j : ℕ). 0) 0 512 (λ i less. zeros i (omega arith))
-
-pub blank_zero : (i : ℕ) → i < 512 → get_or blank_words i 0 ≡ 0
-unfolding blank_words
-blank_zero i h = get_or-map-range_with_len (λ (j : ℕ). 0) 0 512 i i 0 h (let e : 0 + i ≡ i = omega arith in e)
-
-pub in_map : {X Y : Type 0} (f : X → Y) (xs : List X) (x : X) → Contains xs x → Contains (map f xs) (f x)
-in_map f [] x c = let h = c.1 in absurd (omega arith)
-in_map {X} {Y} f (y ∷ ys) x c = ⊎_elim (λ (z : y ≡ x). subst (λ (u : Y). Contains (f y ∷ map f ys) u) (ap f z) (in_head (f y) (map f ys)))
-    (λ (l : Contains ys x). in_tail (f y) (map f ys) (f x) (in_map f ys x l)) (head_or_later y ys x c)
 
 -- a position that may be set up has a spelling
 pub levels_low : (k : Layout) → levels_of k ≤ 5

@@ -20,8 +20,10 @@ use Rattle.row_table.specs.Rule.{Table, levels_of, core_of, Holds}
 use Rattle.row_table.specs.Moves.{NotInHand}
 use Rattle.row_table.specs.Books.{IsHeldAt, IsBelow, region}
 use Rattle.row_table.proofs.Shown.{word_at}
-use Rattle.row_table.proofs.Views.{head_or_later, in_head, in_tail, row_had, held_of_row, knows_it, is_linked, not_in_hand}
-use Rattle.row_table.proofs.Spans.{nested, first_page, row_low, same_place, Below, Clear, looked_up}
+use Rattle.row_table.proofs.Views.{row_had, held_of_row, knows_it, is_linked, not_in_hand}
+use Rattle.row_table.proofs.Spans.{nested, row_low, same_place, Below, Clear, looked_up}
+use Rattle.walk_core.proofs.RowLists.{head_or_later, in_head, in_tail}
+use Rattle.table_place.proofs.Entries.{first_page}
 
 -- an element of which a test is true, or the test is false of all
 pub found_or_none : {X : Type 0} (t : X → Bool) (xs : List X) → ((x : X) × Contains xs x × (t x ≡ true)) ⊎ ((x : X) → Contains xs x → t x ≡ false)

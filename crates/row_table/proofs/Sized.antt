@@ -14,7 +14,7 @@ use Rattle.walk_core.specs.declared.pass.GrantedRow.{GrantedRow}
 use Rattle.walk_core.specs.Lists.{Has, without}
 use Rattle.walk_core.specs.Events.{granted_after_entry, granted_after_part}
 use Rattle.walk_core.specs.Core.{granted_rows}
-use Rattle.walk_core.proofs.RowLists.{times_without_le, granted_found}
+use Rattle.walk_core.proofs.RowLists.{times_without_le, granted_found, has_part}
 use Rattle.walk_core.proofs.KeepsRows.{part_keeps_rows}
 use Rattle.walk_core.proofs.Spellings.{zero_no_link}
 use Rattle.row_table.specs.declared.view.PassView.{PassView}
@@ -27,11 +27,10 @@ use Rattle.row_table.specs.Links.{with_word, newly_linked, with_link, word_set, 
 use Rattle.row_layout.specs.declared.places.Layout.{Layout}
 use Rattle.row_layout.specs.Places.{word_count}
 use Rattle.row_table.proofs.Hands.{rows_placed, rows_numbered}
-use Rattle.row_table.proofs.Beside.{has_part}
 use Rattle.row_table.proofs.Turns.{same_parts, contained_map}
 use Rattle.row_table.proofs.Sizes.{same_sizes}
-use Rattle.row_table.proofs.Openings.{blank_zero}
 use Rattle.row_table.proofs.Links.{parts_without, with_word_row, with_link_row}
+use Rattle.row_table.proofs.Blank.{blank_zero}
 
 -- a row that is granted after an entry was stored was so before
 entry_grants : (x : ℕ) (gs : List GrantedRow) (r : ℕ) → Has (map (λ (g : GrantedRow). g.row) (granted_after_entry x gs)) r → Has (map (λ (g : GrantedRow). g.row) gs) r

@@ -31,9 +31,7 @@ use Rattle.row_table.specs.Books.{given, hand_rows, taken_rows, turned, waited, 
 use Rattle.row_table.specs.Stack.{AreRows}
 use Rattle.row_table.proofs.Views.{kept, has_row, rows_without}
 use Rattle.row_table.proofs.Turns.{same_parts, whole, contained_map}
-
-pub some_is : {X : Type 0} (x y : X) → Some x ≡ Some y → x ≡ y
-some_is x y e = cc
+use Rattle.std.proofs.lemmas.Option.{same_Some}
 
 none_is : {X : Type 0} {F : Type 0} (x : X) → None ≡ Some x → F
 none_is x e = absurd (cc)
@@ -52,8 +50,8 @@ stands_after rows levels r i n (Some x) old link s is = go (eqb x.row r && is_li
     next = record { row = link_row n; place = entry_place levels x.place i; generation = link_generation n }
 
     go : (b : Bool) → (eqb x.row r && is_link n) ≡ b → cond b (Some (record { row = link_row n; place = entry_place levels x.place i; generation = link_generation n })) (Some x) ≡ Some s → s.row < rows
-    go true e at = let less = link (and_parts (eqb x.row r) (is_link n) e).1 in subst (λ (y : Stand). y.row < rows) (some_is _ _ at) less
-    go false e at = subst (λ (y : Stand). y.row < rows) (some_is _ _ at) (old x refl)
+    go true e at = let less = link (and_parts (eqb x.row r) (is_link n) e).1 in subst (λ (y : Stand). y.row < rows) (same_Some _ _ at) less
+    go false e at = subst (λ (y : Stand). y.row < rows) (same_Some _ _ at) (old x refl)
 
 module _ {R B E : Type 0} {n rows : ℕ} {id : TableId} {v : PassView R B E} (old : IsSized n rows id v) where
   -- which rows are there
@@ -100,7 +98,7 @@ module _ {R B E : Type 0} {n rows : ℕ} {id : TableId} {v : PassView R B E} (ol
   -- after each step
 
   pub sized_enter : 0 < rows → IsSized n rows id (entered v)
-  sized_enter some_rows = record { slots = old.slots; words = old.words; rows_are = old.rows_are; number = old.number; held_rows = old.held_rows; stand = λ s is. subst (λ (y : Stand). y.row < rows) (some_is top s is) some_rows; links = old.links; granted = old.granted }
+  sized_enter some_rows = record { slots = old.slots; words = old.words; rows_are = old.rows_are; number = old.number; held_rows = old.held_rows; stand = λ s is. subst (λ (y : Stand). y.row < rows) (same_Some top s is) some_rows; links = old.links; granted = old.granted }
 
   pub sized_leave : IsSized n rows id (left v)
   sized_leave = record { slots = old.slots; words = old.words; rows_are = old.rows_are; number = old.number; held_rows = old.held_rows; stand = λ s is. none_is s is; links = old.links; granted = old.granted }

@@ -10,7 +10,7 @@ use Rattle.table_place.specs.Range.{within}
 use Rattle.table_place.specs.Place.{root, directory, is_directory, is_place, entry_place, has_page, span_first}
 use Rattle.table_place.proofs.Spans.{span_pos, quotient_up}
 use Rattle.table_place.proofs.Tables.{in_range}
-use Rattle.table_place.proofs.Entries.{no_directory, page_parts, page_from}
+use Rattle.table_place.proofs.Entries.{no_directory, page_parts, page_from, level_of, below_is, entry_page, same_span}
 use Rattle.walk_core.specs.Words.{entry_at, is_link, link_row}
 use Rattle.walk_core.specs.Core.{Core, word, place_in, IsLinked}
 use Rattle.walk_core.specs.Good.{Good}
@@ -19,31 +19,6 @@ use Rattle.walk_core.proofs.Tree.{linker_linked, named_by}
 use Rattle.row_table.specs.Plan.{Covers}
 
 -- Places
-
--- what a place of a table says of its level
-pub level_of : (levels : ℕ) (p : Place) → is_place levels p ≡ true → (1 ≤ p.level) × (p.level ≤ levels)
-level_of levels p h =
-    let outer = and_parts (Rattle.std.specs.Prelude.nat_lt p.space 64) (within 1 levels p.level && Rattle.std.specs.Prelude.nat_lt p.prefix (512 ^ (levels - p.level))) h in
-    let inner = and_parts (within 1 levels p.level) (Rattle.std.specs.Prelude.nat_lt p.prefix (512 ^ (levels - p.level))) outer.1 in
-    let depth = in_range 1 levels p.level inner.0 in (depth.0, let d = depth.1 in omega arith)
-
-pub below_is : (levels : ℕ) (p : Place) (i : ℕ) → p.level < 6 → entry_place levels p i ≡ record { space = p.space; level = p.level - 1; prefix = 512 * p.prefix + i }
-below_is levels p i low = cond-false (is_directory p) _ _ (no_directory p low)
-
--- a page of an entry's table is a page of the table
-pub entry_page : (levels : ℕ) (p : Place) (i space page : ℕ) → 2 ≤ p.level → p.level < 6 → i < 512 → has_page (entry_place levels p i) space page ≡ true → has_page p space page ≡ true
-entry_page levels p i space page deep low inside h =
-    let q : Place = record { space = p.space; level = p.level - 1; prefix = 512 * p.prefix + i } in
-    let is = page_parts q space page (omega arith) (ap (λ (x : Place). has_page x space page) (sym (below_is levels p i low)) ∙ h) in
-    let up : page / 512 ^ (p.level - 1 + 1) ≡ page / 512 ^ (p.level - 1) / 512 = quotient_up page (p.level - 1) in
-    let same : p.level - 1 + 1 ≡ p.level = omega arith in
-    let there : page / 512 ^ p.level ≡ page / 512 ^ (p.level - 1) / 512 = ap (λ (n : ℕ). page / 512 ^ n) (sym same) ∙ up in
-    let number = is.1 in
-    page_from p space page low is.0 (omega arith)
-
--- the first page of a span is in it
-pub first_page : (p : Place) → p.level < 6 → has_page p p.space (span_first p) ≡ true
-first_page p low = page_from p p.space (span_first p) low refl (mul-div_cancel p.prefix (span_pos p.level))
 
 -- of two spans with a common page the one of the lower level lies in the other
 pub nested : (p q : Place) (space page : ℕ) → p.level < 6 → p.level ≤ q.level → (q.level < 6) ⊎ (q ≡ directory) → has_page p space page ≡ true → has_page q space page ≡ true → Covers q p
@@ -55,13 +30,6 @@ nested p q space page low less (inl lower) a b s x h =
     = λ y. ap (λ (n : ℕ). y / 512 ^ n) (sym whole) ∙ (ap (λ (d : ℕ). y / d) (pow-add 512 p.level (q.level - p.level)) ∙ sym (div-div-eq-div-mul y (512 ^ p.level) (512 ^ (q.level - p.level)))) in
     page_from q s x lower (two.0 ∙ (sym one.0 ∙ three.0))
     (split x ∙ (ap (λ (n : ℕ). n / 512 ^ (q.level - p.level)) (three.1 ∙ sym one.1) ∙ (sym (split page) ∙ two.1)))
-
--- two spans of one level with a common page are one
-pub same_span : (p q : Place) (space page : ℕ) → p.level < 6 → p.level ≡ q.level → has_page p space page ≡ true → has_page q space page ≡ true → p ≡ q
-same_span p q space page low same a b =
-    let one = page_parts p space page low a in let two = page_parts q space page (omega arith) b in
-    let prefix : p.prefix ≡ q.prefix = sym one.1 ∙ (ap (λ (n : ℕ). page / 512 ^ n) same ∙ two.1) in
-    λ i. record { space = (one.0 ∙ sym two.0) i; level = same i; prefix = prefix i }
 
 -- The tree
 

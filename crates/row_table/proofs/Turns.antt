@@ -22,7 +22,7 @@ use Rattle.walk_core.specs.Core.{Core, word, pass_at, idle, no_samples, times_in
 use Rattle.walk_core.specs.Events.{newly_granted, free_after}
 use Rattle.walk_core.specs.Guards.{Guard, put_rows}
 use Rattle.walk_core.specs.Good.{Good}
-use Rattle.walk_core.proofs.RowLists.{times-nil, times-append, times-cons, times-cons_same, times_minus_same, times_minus_other}
+use Rattle.walk_core.proofs.RowLists.{times-nil, times-append, times-cons, times-cons_same, times_minus_same, times_minus_other, in_head, in_tail, head_or_later, has_contained}
 use Rattle.walk_core.proofs.Facts.{free_unheld, free_linked, parts-le-out, out-le-one}
 use Rattle.walk_core.proofs.Frames.{same_holder}
 use Rattle.row_layout.specs.declared.places.Layout.{Layout}
@@ -42,7 +42,7 @@ use Rattle.row_table.proofs.Known.{right_now}
 use Rattle.row_table.proofs.Shown.{ShowSame, book_shows}
 use Rattle.row_table.proofs.Hands.{same_maps}
 use Rattle.row_table.proofs.Frames.{moved, moved_here, knows_shown, contents_booked}
-use Rattle.row_table.proofs.Views.{head_or_later, pass_is, is_linked, held_of_row, has_held}
+use Rattle.row_table.proofs.Views.{pass_is, is_linked, held_of_row, has_held}
 use Rattle.row_table.proofs.Regions.{untouched}
 use Rattle.row_table.proofs.Vacant.{vacant_given, vacant_kept}
 
@@ -50,13 +50,8 @@ use Rattle.row_table.proofs.Vacant.{vacant_given, vacant_kept}
 
 pub contained_map : {X Y : Type 0} (f : X → Y) (xs : List X) (y : Y) → Contains (map f xs) y → (x : X) × Contains xs x × (f x ≡ y)
 contained_map f [] y c = let h = c.1 in absurd (omega arith)
-contained_map f (x ∷ xs) y c = ⊎_elim (λ (z : f x ≡ y). (x, Rattle.row_table.proofs.Views.in_head x xs, z))
-    (λ (l : Contains (map f xs) y). let o = contained_map f xs y l in (o.0, Rattle.row_table.proofs.Views.in_tail x xs o.0 o.1, o.2)) (head_or_later (f x) (map f xs) y c)
-
-pub has_contained : (xs : List ℕ) (r : ℕ) → Contains xs r → Has xs r
-has_contained [] r c = let h = c.1 in absurd (omega arith)
-has_contained (x ∷ xs) r c = let n = times-cons r x xs in ⊎_elim (λ (z : x ≡ r). let one = times-cons_same r x xs z in omega arith)
-    (λ (l : Contains xs r). let o = has_contained xs r l in omega arith) (head_or_later x xs r c)
+contained_map f (x ∷ xs) y c = ⊎_elim (λ (z : f x ≡ y). (x, in_head x xs, z))
+    (λ (l : Contains (map f xs) y). let o = contained_map f xs y l in (o.0, in_tail x xs o.0 o.1, o.2)) (head_or_later (f x) (map f xs) y c)
 
 pub same_parts : {X Y : Type 0} (f : X → Y) (g : Y → ℕ) (h : X → ℕ) → ((x : X) → g (f x) ≡ h x) → (xs : List X) → map g (map f xs) ≡ map h xs
 same_parts f g h same [] = refl

@@ -11,7 +11,7 @@ use Rattle.walk_core.specs.Words.{entry_at, is_link}
 use Rattle.walk_core.specs.Lists.{times, Has}
 use Rattle.walk_core.specs.Core.{Core, word, place_in, IsLinked}
 use Rattle.walk_core.specs.Good.{Good}
-use Rattle.walk_core.proofs.RowLists.{times-nil, times-cons, times-filter}
+use Rattle.walk_core.proofs.RowLists.{times-nil, times-cons, times-filter, range_below}
 use Rattle.walk_core.proofs.Frames.{same_holder}
 use Rattle.row_layout.specs.declared.places.Layout.{Layout}
 use Rattle.row_table.specs.declared.view.PassView.{PassView}
@@ -23,16 +23,11 @@ use Rattle.row_table.specs.Moves.{NotInHand}
 use Rattle.row_table.specs.Books.{given, region}
 use Rattle.row_table.proofs.Shown.{word_at}
 use Rattle.row_table.proofs.Views.{held_of_row, has_held, is_linked}
-use Rattle.row_table.proofs.Spans.{level_of, below_is, entry_page, first_page, same_span, row_low, same_place, above_page, Parent, parent_of, Below, Clear, looked_up}
+use Rattle.row_table.proofs.Spans.{row_low, same_place, above_page, Parent, parent_of, Below, Clear, looked_up}
 use Rattle.row_table.proofs.Regions.{decide, row_linked, below_it}
+use Rattle.table_place.proofs.Entries.{level_of, below_is, entry_page, first_page, same_span}
 
 -- Lists of entries
-
-range_below : (a n i : ℕ) → Has (range_with_len a n) i → i < a + n
-range_below a zero i has = let n = times-nil i in absurd (omega arith)
-range_below a (suc n) i has = let t = times-cons i a (range_with_len (a + 1) n) in dite (ℕ_discrete a i)
-    (λ e. omega arith)
-    (λ ne. let other = Rattle.walk_core.proofs.RowLists.times-cons_other i a (range_with_len (a + 1) n) ne in let rest = range_below (a + 1) n i (omega arith) in omega arith)
 
 pub entry_below : (i : ℕ) → Has all_entries i → i < 512
 unfolding all_entries
@@ -48,20 +43,6 @@ vacant_is words i has = go (is_link (get_or words i 0)) refl
     go false e = let f = times-filter (λ j. not (is_link (get_or words j 0))) i (range_with_len 0 512) in
         let z : times i (vacant_entries words) ≡ times i (range_with_len 0 512) = f ∙ ap (λ (b : Bool). cond (not b) (times i (range_with_len 0 512)) 0) e in
         (range_below 0 512 i (let h : 0 < times i (vacant_entries words) = has in omega arith), e)
-
-range_above : (a n i : ℕ) → a ≤ i → i < a + n → Has (range_with_len a n) i
-range_above a zero i low high = absurd (omega arith)
-range_above a (suc n) i low high = let t = times-cons i a (range_with_len (a + 1) n) in dite (ℕ_discrete a i)
-    (λ e. let same = Rattle.walk_core.proofs.RowLists.times-cons_same i a (range_with_len (a + 1) n) e in omega arith)
-    (λ ne. let other = Rattle.walk_core.proofs.RowLists.times-cons_other i a (range_with_len (a + 1) n) ne in let rest = range_above (a + 1) n i (omega arith) (omega arith) in omega arith)
-
--- an entry that is no link is among them
-pub is_vacant : (words : List ℕ) (i : ℕ) → i < 512 → is_link (get_or words i 0) ≡ false → Has (vacant_entries words) i
-unfolding vacant_entries
-is_vacant words i inside none =
-    let f = times-filter (λ j. not (is_link (get_or words j 0))) i (range_with_len 0 512) in
-    let z : times i (vacant_entries words) ≡ times i (range_with_len 0 512) = f ∙ ap (λ (b : Bool). cond (not b) (times i (range_with_len 0 512)) 0) none in
-    let h : 0 < times i (range_with_len 0 512) = range_above 0 512 i (omega arith) inside in omega arith
 
 -- The tree
 

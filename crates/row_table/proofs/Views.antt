@@ -11,7 +11,7 @@ use Rattle.walk_core.specs.Words.{entry_at, is_link, link_row}
 use Rattle.walk_core.specs.Lists.{Has, without}
 use Rattle.walk_core.specs.Core.{Core, pass_at, idle, times_in_hand, IsLinked}
 use Rattle.walk_core.specs.Guards.{StandsOn, HoldsLinker}
-use Rattle.walk_core.proofs.RowLists.{times-nil, times-cons, times-cons_same, times-cons_other}
+use Rattle.walk_core.proofs.RowLists.{times-nil, times-cons, times-cons_same, times-cons_other, head_or_later, in_head, in_tail}
 use Rattle.walk_core.proofs.Facts.{hand-le-out, held_linked}
 use Rattle.walk_core.proofs.Keeps.{found_is}
 use Rattle.row_layout.specs.declared.places.Layout.{Layout}
@@ -23,17 +23,7 @@ use Rattle.row_table.specs.Known.{LinksRow}
 use Rattle.row_table.specs.Moves.{NotInHand, MayGrab}
 use Rattle.row_table.proofs.Shown.{word_at}
 
--- Elements of lists
-
-pub head_or_later : {X : Type 0} (x : X) (xs : List X) (y : X) → Contains (x ∷ xs) y → (x ≡ y) ⊎ Contains xs y
-head_or_later x xs y (zero, less, is) = inl is
-head_or_later x xs y (suc k, less, is) = inr (k, omega arith, is)
-
-pub in_head : {X : Type 0} (x : X) (xs : List X) → Contains (x ∷ xs) x
-in_head x xs = (0, omega arith, refl)
-
-pub in_tail : {X : Type 0} (x : X) (xs : List X) (y : X) → Contains xs y → Contains (x ∷ xs) y
-in_tail x xs y (k, less, is) = (suc k, omega arith, is)
+-- Lists
 
 pub kept : {X : Type 0} (t : X → Bool) (xs : List X) (y : X) → Contains (filter t xs) y → (t y ≡ true) × Contains xs y
 kept t [] y c = let h = c.1 in absurd (omega arith)

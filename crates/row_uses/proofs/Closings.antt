@@ -7,7 +7,7 @@ use Rattle.row_table.specs.declared.view.PassView.{PassView}
 use Rattle.row_table.specs.Plan.{Meaning}
 use Rattle.row_table.specs.Close.{IsClosed}
 use Rattle.row_uses.specs.Uses.{Remembers}
-use Rattle.row_table.proofs.Openings.{in_map}
+use Rattle.walk_core.proofs.RowLists.{in_map}
 
 pub remembered : {R B E P : Type 0} (M : Meaning R B E) (k : Layout) (view : P → PassView R B E) (passes : List P) (words epochs : List ℕ) (rows : List R) (book : B)
     → IsClosed M k (map view passes) words epochs rows book → All (λ p. Remembers M (M.journal book) (view p)) passes

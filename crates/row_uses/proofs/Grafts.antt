@@ -13,7 +13,7 @@ use Rattle.walk_core.specs.Lists.{times, Has, without}
 use Rattle.walk_core.specs.Core.{unlinked_rows}
 use Rattle.walk_core.specs.Events.{top, newly_granted, newly_unlinked, granted_after_part, granted_after_entry, unlinked_after_give, stand_after_look}
 use Rattle.walk_core.specs.Guards.{StandsOn, put_rows}
-use Rattle.walk_core.proofs.RowLists.{times-nil, times-cons_other, times-append, times_one_same, times_one_other, among_true}
+use Rattle.walk_core.proofs.RowLists.{times-nil, times-cons_other, times-append, times_one_same, times_one_other, among_true, head_or_later, in_head, in_tail, in_map}
 use Rattle.walk_core.proofs.Spellings.{link_word_is, link_row-link_word, link_generation-link_word, is_link-link_word, zero_no_link}
 use Rattle.row_layout.specs.declared.places.Layout.{Layout}
 use Rattle.row_table.specs.declared.view.HeldRow.{HeldRow}
@@ -28,9 +28,8 @@ use Rattle.row_table.specs.Openings.{with_place, with_number, opened_row, prepar
 use Rattle.row_table.specs.Links.{with_word, newly_linked, with_link, link_set, word_set, entry_cut, MaySetEntry, Sets, MayUnlink, Unlinks}
 use Rattle.row_table.specs.Close.{IsIdle}
 use Rattle.row_uses.specs.Stock.{Stock, stock, View, HasRoot, HasGrant, HasGraft}
-use Rattle.row_table.proofs.Views.{head_or_later, in_head, in_tail}
-use Rattle.row_table.proofs.Openings.{blank_zero, in_map}
 use Rattle.row_uses.proofs.Stock.{taken_is, put_is, taken_none}
+use Rattle.row_table.proofs.Blank.{blank_zero}
 
 -- The link of entry 0 of row 0: row 1, the root of space 0, with generation 1
 abbrev pub root_link : ℕ

@@ -8,7 +8,7 @@ use Rattle.walk_core.specs.declared.pass.GrantedRow.{GrantedRow}
 use Rattle.walk_core.specs.Words.{is_link, link_row, link_word}
 use Rattle.walk_core.specs.Lists.{times, Has, without}
 use Rattle.walk_core.specs.Events.{newly_granted}
-use Rattle.walk_core.proofs.RowLists.{times-nil, times-append, times_one_same, times_one_other, times-cons_same, times-cons_other, times_without_other}
+use Rattle.walk_core.proofs.RowLists.{times-nil, times-append, times_one_same, times_one_other, times-cons_same, times-cons_other, times_without_other, in_head, in_tail}
 use Rattle.walk_core.proofs.Spellings.{link_row-link_word, is_link-link_word}
 use Rattle.row_layout.specs.declared.places.Layout.{Layout}
 use Rattle.row_table.specs.declared.view.HeldRow.{HeldRow}
@@ -22,13 +22,12 @@ use Rattle.row_table.specs.Books.{given, taken_rows, turned, Learns, Gives, MayG
 use Rattle.row_table.specs.Openings.{prepared, opened, MaySetUp, IsSetUp}
 use Rattle.row_table.specs.Links.{MaySetEntry, Sets}
 use Rattle.row_uses.specs.Sown.{sown, lists, View, IsLacking, SameSeeds, same_place, KeepsListed, MaySowBoth, DrawsBoth, AreSown}
-use Rattle.row_table.proofs.Views.{in_head, in_tail}
-use Rattle.row_table.proofs.Vacant.{is_vacant}
 use Rattle.row_uses.proofs.SownPlaces.{few_levels, Splits, splits, touched, same_is, same_self}
 use Rattle.std.proofs.lemmas.List.Folds.{list_any-append}
 use Rattle.row_uses.specs.declared.sowing.Bed.{Bed}
 use Rattle.row_table.specs.Plan.{IsUntouched}
 use Rattle.row_uses.proofs.SownSteps.{Stage, gave_stage, old_is, keeps_after, may_return, taken_are, may_take_all, done, hand_same, hand_other, granted_same, granted_other, prepared_stage, may_link_it, may_return_it, it_fits, planted}
+use Rattle.row_table.proofs.Blank.{is_vacant}
 
 -- Two positions more in the list
 

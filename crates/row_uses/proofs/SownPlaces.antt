@@ -16,8 +16,8 @@ use Rattle.row_table.specs.Rule.{levels_of}
 use Rattle.row_table.specs.Moves.{NotInHand}
 use Rattle.row_table.specs.Books.{IsHeldAt, region}
 use Rattle.row_uses.specs.Sown.{View, same_place, lists, KeepsListed}
-use Rattle.row_table.proofs.Views.{head_or_later, in_head}
-use Rattle.row_table.proofs.Spans.{level_of, below_is, entry_page, first_page, same_span}
+use Rattle.walk_core.proofs.RowLists.{head_or_later, in_head}
+use Rattle.table_place.proofs.Entries.{level_of, below_is, entry_page, first_page, same_span}
 
 -- The tables below a row
 

@@ -12,7 +12,7 @@ use Rattle.walk_core.specs.Words.{is_link, link_generation}
 use Rattle.walk_core.specs.Lists.{times, Has, without}
 use Rattle.walk_core.specs.Events.{top, stand_after_look}
 use Rattle.walk_core.specs.Guards.{StandsOn}
-use Rattle.walk_core.proofs.RowLists.{times-nil, times-append, times_one_same}
+use Rattle.walk_core.proofs.RowLists.{times-nil, times-append, times_one_same, in_head}
 use Rattle.walk_core.proofs.Spellings.{zero_no_link}
 use Rattle.row_layout.specs.declared.places.Layout.{Layout}
 use Rattle.row_table.specs.declared.view.HeldRow.{HeldRow}
@@ -26,7 +26,6 @@ use Rattle.row_table.specs.Start.{MayStart}
 use Rattle.row_uses.specs.declared.sowing.Seeds.{Seeds}
 use Rattle.row_uses.specs.declared.sowing.Unsown.{Unsown}
 use Rattle.row_uses.specs.Sown.{same_place, sown, View, HoldsAlone, KeepsRow, Sows, MaySowBoth, SowsBoth, bed, next_bed, HasRoot, HasBeds}
-use Rattle.row_table.proofs.Views.{in_head}
 use Rattle.row_uses.proofs.Grafts.{root_link, root_is_link}
 use Rattle.row_uses.proofs.SownSteps.{still_kept}
 use Rattle.row_uses.proofs.Visits.{empty_map}

@@ -14,7 +14,7 @@ use Rattle.walk_core.specs.Words.{is_link, link_row, link_generation, link_word,
 use Rattle.walk_core.specs.Lists.{times, Has, without, minus, among}
 use Rattle.walk_core.specs.Events.{newly_granted, granted_after_part, granted_after_entry, with_part, unlinked_after_give}
 use Rattle.walk_core.specs.Guards.{put_rows, MayPut}
-use Rattle.walk_core.proofs.RowLists.{times-nil, times-append, times_one_same, times_one_other, times_minus_other, among_true, times_minus_same, times_dropped, among_false}
+use Rattle.walk_core.proofs.RowLists.{times-nil, times-append, times_one_same, times_one_other, times_minus_other, among_true, times_minus_same, times_dropped, among_false, in_head, in_tail, has_contained, has_part}
 use Rattle.walk_core.proofs.Spellings.{link_row-link_word, link_generation-link_word, is_link-link_word}
 use Rattle.row_layout.specs.declared.places.Layout.{Layout}
 use Rattle.row_table.specs.declared.view.HeldRow.{HeldRow}
@@ -30,16 +30,13 @@ use Rattle.row_table.specs.Books.{given, hand_rows, swept_rows, taken_rows, put_
 use Rattle.row_table.specs.Openings.{with_place, with_number, opened_row, prepared, opened, MaySetUp, IsSetUp}
 use Rattle.row_table.specs.Links.{with_word, newly_linked, with_link, link_set, word_set, MaySetEntry, Sets}
 use Rattle.row_uses.specs.Sown.{sown, lists, View, HoldsAlone, MaySow, SameSeeds, Draws, IsLacking, KeepsRow, IsSown, IsUnsown, Fails, same_place, KeepsListed}
-use Rattle.row_table.proofs.Views.{in_head, in_tail}
-use Rattle.row_table.proofs.Turns.{has_contained}
-use Rattle.row_table.proofs.Beside.{has_part}
-use Rattle.row_table.proofs.Vacant.{is_vacant}
 use Rattle.row_uses.proofs.Visits.{empty_map}
 use Rattle.row_uses.proofs.Stock.{filter_none, minus_none, limbo_same, empty_journal, filter_all, minus_has}
 use Rattle.row_uses.proofs.SownPlaces.{few_levels, Splits, splits, only_row, touched, lists_other, lists_it, keeps_listed}
 use Rattle.std.proofs.lemmas.List.Elements.{filter-append}
 use Rattle.walk_core.specs.declared.event.SetPart.{SetPart}
 use Rattle.row_table.specs.Plan.{IsUntouched}
+use Rattle.row_table.proofs.Blank.{is_vacant}
 
 -- A give that takes these rows of the end of the free ones
 

@@ -13,14 +13,11 @@ use Rattle.walk_core.specs.declared.lists.PutRow.{PutRow}
 use Rattle.walk_core.specs.Lists.{times, Has, among, minus}
 use Rattle.walk_core.specs.Core.{unlinked_rows}
 use Rattle.walk_core.specs.Guards.{put_rows, MayPut}
-use Rattle.walk_core.proofs.RowLists.{times-nil, times-append, times_one_same, times_one_other, times_minus_same, times_minus_other, among_true, among_false, range-push}
+use Rattle.walk_core.proofs.RowLists.{times-nil, times-append, times_one_same, times_one_other, times_minus_same, times_minus_other, among_true, among_false, range-push, in_head, in_tail, has_contained, has_part}
 use Rattle.row_layout.specs.declared.places.Layout.{Layout}
 use Rattle.row_table.specs.Books.{book_core, swept_rows, put_list, taken_rows, MayGive}
 use Rattle.row_table.specs.Start.{MayStart}
 use Rattle.row_uses.specs.Stock.{Stock, stock, View}
-use Rattle.row_table.proofs.Views.{in_head, in_tail}
-use Rattle.row_table.proofs.Turns.{has_contained}
-use Rattle.row_table.proofs.Beside.{has_part}
 
 -- Lists
 

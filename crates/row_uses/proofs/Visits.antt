@@ -27,7 +27,7 @@ use Rattle.row_uses.specs.declared.uses.Unseen.{Unseen}
 use Rattle.row_uses.specs.declared.uses.Unseen.TheVariants as Unseen
 use Rattle.row_uses.specs.Takes.{Takes, Peeks}
 use Rattle.row_uses.specs.Uses.{IsStanding, Notes, came, WentDown, Touched, Went, LookedIn}
-use Rattle.row_table.proofs.Sizes.{some_is}
+use Rattle.std.proofs.lemmas.Option.{same_Some}
 
 -- where a look leads
 came_is : (levels index n : ℕ) (s : Stand) → stand_after_look levels s.row index n (Some s) ≡ Some (came levels s index n)
@@ -104,7 +104,7 @@ module _ {R B E : Type 0} where
 
   -- the same pass, where its stand is known
   abbrev pub stands_on : {v : PassView R B E} {row : ℕ} (at : IsStanding v row) (s : Stand) → v.core.stand ≡ Some s → IsStanding v row
-  stands_on at s e = record { stand = s; on = e; same_row = ap (λ (y : Stand). y.row) (some_is s at.stand (sym e ∙ at.on)) ∙ at.same_row; held = at.held; granted = at.granted; unlinked = at.unlinked; has_not = at.has_not }
+  stands_on at s e = record { stand = s; on = e; same_row = ap (λ (y : Stand). y.row) (same_Some s at.stand (sym e ∙ at.on)) ∙ at.same_row; held = at.held; granted = at.granted; unlinked = at.unlinked; has_not = at.has_not }
 
   abbrev pub stands_at_top : (v u : PassView R B E) → IsIdle v → u ≡ entered v → IsStanding u 0
   stands_at_top v u idle e = record {
