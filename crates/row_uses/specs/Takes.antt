@@ -17,7 +17,8 @@ module _ {R B E : Type 0} where
   Takes v row place (Ok content) w = (f : Finds row v) × (f.content ≡ content) × (w ≡ got v row place f.generation f.words content)
   Takes v row place (Err holder) w = IsHolder v row holder.0 × (w ≡ looked v row place None (held_by holder.0))
 
-  -- The content is the one that the grab found. Else another pass holds the row, or nobody may take it. The lock word is among the findings, and nothing else has changed.
+  -- The content is the one that the grab found. Else another pass holds the row, or nobody may take it. The lock word is among the findings, and nothing else has changed:
+  -- what the pass knows keeps no content of a row that it has given back.
   abbrev pub Peeks : PassView R B E → ℕ → Place → Result R Unseen → PassView R B E → Type 0
   Peeks v row place (Ok content) w = ((f : Finds row v) × (f.content ≡ content)) × (w ≡ looked v row place None 0)
   Peeks v row place (Err (Held holder)) w = IsAnother v holder × (w ≡ looked v row place None (held_by holder))

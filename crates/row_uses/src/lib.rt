@@ -1,4 +1,5 @@
-//! Callers of the shared table that rely on its public clauses alone, over small plans.
+//! Callers of the shared table, over small plans. They rely on its public clauses, and their proofs cite two lemmas on the words of
+//! these, `row_table`'s `Blank`.
 #![tactic(auto)]
 
 #[cfg(test)]

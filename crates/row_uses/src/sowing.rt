@@ -1,4 +1,4 @@
-//! Callers that link new rows, and rely on the public clauses alone.
+//! Callers that link new rows. They rely on the public clauses, and on a lemma on their words: an entry that is no link is vacant.
 ghost use Rattle.std.specs.Prelude.{◌≡◌, ◌<◌, ◌^◌, MatchResult};
 ghost use Rattle.walk_core.specs.Words as words;
 ghost use Rattle.row_table.specs.Passes.{view_of, table_of, IsPassOf};
