@@ -2,7 +2,6 @@
 use Rattle.std.proofs.Common.{◌≡◌, ◌≢◌, ℕ, ◌+◌, ◌*◌, ◌<◌, ◌≤◌, ◌^◌, eqb, cond, true, false, Bool, List, [], ◌∷◌, ◌++◌, map, length, get_or, set, sym, refl, ap, ◌∙◌, subst, ⊎_elim, arith, length-set, get_or-set_same, get_or-set_other, eq-eqb, ne_eqb, Some}
 use Rattle.std.specs.List.{Contains}
 use Rattle.std.proofs.lemmas.List.{map-append}
-use Rattle.std.proofs.lemmas.List.FromFn.{get_or-map-range_with_len}
 use Rattle.std.proofs.lemmas.List.Elements.{Contains-push_cases}
 use mathlib.Core.Option.{some, none}
 use mathlib.Core.Logic.{dite}
@@ -21,7 +20,7 @@ use Rattle.walk_core.specs.Lists.{times, Has}
 use Rattle.walk_core.specs.Core.{Core, pass_at, granted_rows, granted_at, set_up, times_in_hand, times_out}
 use Rattle.walk_core.specs.Events.{granted_after_part, place_of}
 use Rattle.walk_core.specs.Guards.{MayWrite}
-use Rattle.walk_core.proofs.RowLists.{granted_found, head_or_later, in_head, in_tail, has_part, in_map}
+use Rattle.walk_core.proofs.RowLists.{granted_found, has_part, in_map}
 use Rattle.walk_core.proofs.Facts.{hand-le-out, hand_there}
 use Rattle.walk_core.proofs.KeepsRows.{part_keeps_rows, is_place_low, prefix_low}
 use Rattle.walk_core.proofs.Spellings.{place_shown-position_word}

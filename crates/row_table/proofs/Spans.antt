@@ -1,16 +1,12 @@
 -- Spans of the rows of the tree: no two linked rows have one position, and where a held row is in reach.
-use Rattle.std.proofs.Common.{◌≡◌, ◌≢◌, ℕ, zero, suc, ◌+◌, ◌-◌, ◌*◌, ◌/◌, ◌^◌, ◌<◌, ◌≤◌, ◌⊎◌, true, ◌&&◌, sym, refl, ap, ◌∙◌, subst, inl, inr, ⊎_elim, arith}
-use Rattle.std.proofs.Math.Nat.{mul-div_cancel, div-div-eq-div-mul}
+use Rattle.std.proofs.Common.{◌≡◌, ◌≢◌, ℕ, zero, suc, ◌+◌, ◌-◌, ◌*◌, ◌/◌, ◌^◌, ◌<◌, ◌≤◌, ◌⊎◌, true, sym, ap, ◌∙◌, subst, inl, inr, ⊎_elim, arith}
+use Rattle.std.proofs.Math.Nat.{div-div-eq-div-mul}
 use Rattle.std.proofs.Math.Pow.{pow-add}
-use Rattle.std.proofs.lemmas.Bool.{and_parts, cond-false}
 use mathlib.Core.Logic.{dite}
 use native.Mathlib.Decide.{ℕ_discrete}
 use Rattle.table_place.specs.declared.Place.{Place}
-use Rattle.table_place.specs.Range.{within}
-use Rattle.table_place.specs.Place.{root, directory, is_directory, is_place, entry_place, has_page, span_first}
-use Rattle.table_place.proofs.Spans.{span_pos, quotient_up}
-use Rattle.table_place.proofs.Tables.{in_range}
-use Rattle.table_place.proofs.Entries.{no_directory, page_parts, page_from, level_of, below_is, entry_page, same_span}
+use Rattle.table_place.specs.Place.{root, directory, entry_place, has_page}
+use Rattle.table_place.proofs.Entries.{page_parts, page_from, level_of, below_is, entry_page, same_span}
 use Rattle.walk_core.specs.Words.{entry_at, is_link, link_row}
 use Rattle.walk_core.specs.Core.{Core, word, place_in, IsLinked}
 use Rattle.walk_core.specs.Good.{Good}

@@ -22,7 +22,7 @@ use Rattle.walk_core.specs.Core.{Core, word, pass_at, idle, no_samples, times_in
 use Rattle.walk_core.specs.Events.{newly_granted, free_after}
 use Rattle.walk_core.specs.Guards.{Guard, put_rows}
 use Rattle.walk_core.specs.Good.{Good}
-use Rattle.walk_core.proofs.RowLists.{times-nil, times-append, times-cons, times-cons_same, times_minus_same, times_minus_other, in_head, in_tail, head_or_later, has_contained}
+use Rattle.walk_core.proofs.RowLists.{times-nil, times-append, times_minus_same, times_minus_other, in_head, in_tail, head_or_later, has_contained}
 use Rattle.walk_core.proofs.Facts.{free_unheld, free_linked, parts-le-out, out-le-one}
 use Rattle.walk_core.proofs.Frames.{same_holder}
 use Rattle.row_layout.specs.declared.places.Layout.{Layout}

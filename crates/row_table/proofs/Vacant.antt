@@ -11,7 +11,7 @@ use Rattle.walk_core.specs.Words.{entry_at, is_link}
 use Rattle.walk_core.specs.Lists.{times, Has}
 use Rattle.walk_core.specs.Core.{Core, word, place_in, IsLinked}
 use Rattle.walk_core.specs.Good.{Good}
-use Rattle.walk_core.proofs.RowLists.{times-nil, times-cons, times-filter, range_below}
+use Rattle.walk_core.proofs.RowLists.{times-filter, range_below}
 use Rattle.walk_core.proofs.Frames.{same_holder}
 use Rattle.row_layout.specs.declared.places.Layout.{Layout}
 use Rattle.row_table.specs.declared.view.PassView.{PassView}

@@ -1,5 +1,5 @@
 -- What a view says of the core for which the table stands.
-use Rattle.std.proofs.Common.{◌≡◌, ℕ, zero, suc, ◌⊎◌, true, false, not, cond, Bool, List, [], ◌∷◌, map, length, get_or, sym, refl, ap, ◌∙◌, subst, inl, inr, ⊎_elim, arith, eqb}
+use Rattle.std.proofs.Common.{◌≡◌, ℕ, ◌⊎◌, true, false, not, cond, Bool, List, [], ◌∷◌, map, length, get_or, sym, refl, ap, ◌∙◌, subst, inl, inr, ⊎_elim, arith, eqb}
 use Rattle.std.specs.List.{Contains, filter}
 use mathlib.Core.Option.{some}
 use mathlib.Core.Logic.{dite}

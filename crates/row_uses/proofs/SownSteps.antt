@@ -1,5 +1,5 @@
 -- What a pass of the plan with a list of positions may give, what each call of a sowing makes of a pass, and what it has after the sowing of a row.
-use Rattle.std.proofs.Common.{◌≡◌, ◌≢◌, ℕ, ◌<◌, ◌≤◌, ◌⊎◌, eqb, cond, not, Bool, true, false, List, [], ◌∷◌, ◌++◌, map, length, set, inr, sym, refl, ap, ◌∙◌, subst, ⊎_elim, arith, eq-eqb, ne_eqb, append-nil, Option, Some, None, Result, Ok, Err, MatchResult, ◌+◌, ◌^◌, get_or}
+use Rattle.std.proofs.Common.{◌≡◌, ◌≢◌, ℕ, ◌<◌, ◌≤◌, ◌⊎◌, eqb, cond, not, Bool, true, false, List, [], ◌∷◌, ◌++◌, map, set, inr, sym, refl, ap, ◌∙◌, subst, ⊎_elim, arith, eq-eqb, ne_eqb, append-nil, Option, Some, None, Result, Ok, Err, MatchResult, ◌+◌, ◌^◌, get_or}
 use Rattle.std.specs.List.{Contains, filter, AllByRecursion, list_any}
 use Rattle.std.proofs.lemmas.Bool.{cases_lt}
 use mathlib.Core.Logic.{dite}

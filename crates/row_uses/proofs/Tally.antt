@@ -1,5 +1,5 @@
 -- What the tests' plan lets a pass do, and what a pass knows that added an entry.
-use Rattle.std.proofs.Common.{◌≡◌, ℕ, suc, ◌+◌, ◌-◌, ◌==◌, cond, true, false, Bool, List, [], ◌∷◌, ◌++◌, length, length-append, inl, inr, sym, refl, ap, ◌∙◌, subst, arith, append-nil, eq-eqb, Some}
+use Rattle.std.proofs.Common.{◌≡◌, ℕ, suc, ◌+◌, ◌-◌, ◌==◌, cond, true, false, Bool, List, [], ◌∷◌, ◌++◌, length, length-append, inl, inr, sym, refl, ap, ◌∙◌, subst, arith, append-nil, eq-eqb}
 use Rattle.std.specs.Bool.{if◌then◌else◌}
 use Rattle.std.specs.List.{range_with_len}
 use mathlib.Core.Option.{some-injective}
