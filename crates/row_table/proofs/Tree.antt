@@ -5,14 +5,14 @@ use native.Mathlib.Decide.{ℕ_discrete}
 use Rattle.walk_core.specs.Words.{entry_at, is_link, link_row}
 use Rattle.walk_core.specs.Core.{Core, word, place_in, generation_in, IsLinked}
 use Rattle.walk_core.specs.Good.{Good}
-use Rattle.walk_core.proofs.Tree.{names_linked, linker_linked}
+use Rattle.walk_core.proofs.Tree.{names_linked, linker_linked, names_no_root}
 use Rattle.walk_core.proofs.Facts.{root_linked}
 use Rattle.walk_core.proofs.Spellings.{zero_no_link}
 use Rattle.row_layout.specs.declared.places.Layout.{Layout}
 use Rattle.row_table.specs.Plan.{Meaning}
 use Rattle.row_table.specs.Rule.{Table, core_of, Holds}
 use Rattle.row_table.specs.Close.{IsReachedIn, IsReached}
-use Rattle.row_table.specs.Tree.{IsNamedOnce, IsTree}
+use Rattle.row_table.specs.Tree.{IsNamedOnce, LeadsDown, IsTree}
 use Rattle.row_table.proofs.Spans.{Parent, parent_of, row_low, above_level, same_parents, same_place}
 
 module _ {c : Core} (g : Good c) where
@@ -67,10 +67,18 @@ module _ {R B E : Type 0} (M : Meaning R B E) (k : Layout) (first : B) (s : Tabl
     only = λ q j less inside link to_row. one_parent h.good r q j p less inside link to_row;
   }
 
+  leads_down : (r i : ℕ) → IsReached s.words r → i < 512 → is_link (word c (entry_at r i)) ≡ true → LeadsDown k s.words r i
+  leads_down r i o inside link = let there = (reached_linked h.good r o).there in record {
+    not_root = names_no_root h.good.links r i there inside link;
+    place = (h.good.links.links_true r i there inside link).place;
+  }
+
   pub is_tree : IsTree k s.words
   is_tree = record {
     there = λ r i. (reached_linked h.good r i).there;
     top = h.good.links.root_place;
     apart = λ a b i j e. same_place h.good a b (reached_linked h.good a i) (reached_linked h.good b j) e;
     named = is_named;
+    leads = leads_down;
+    tables = λ r ne o. h.good.links.places r ne (reached_linked h.good r o);
   }

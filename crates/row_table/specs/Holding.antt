@@ -1,14 +1,15 @@
 -- What is always true of the rows that passes hold.
 --     HeldTrue      a held row is there and locked by its pass, the words show what the view says of it, and if the pass's hand does not have it, links reach it from row 0
 --     RowsTrue      the same of each row of each pass of every seat
-use Rattle.std.specs.Prelude.{◌≡◌, ℕ, ◌<◌, List}
+--     RowsShown      the rows of each view are those that its pass holds
+use Rattle.std.specs.Prelude.{◌≡◌, ℕ, ◌<◌, List, map}
 use Rattle.std.specs.List.{Contains}
 use Rattle.walk_core.specs.Words.{held_by}
 use Rattle.row_layout.specs.declared.places.Layout.{Layout}
 use Rattle.row_table.specs.declared.view.PassView.{PassView}
 use Rattle.row_table.specs.declared.view.HeldRow.{HeldRow}
 use Rattle.row_table.specs.Rows.{row_words, place_at, lock_of, generation_of}
-use Rattle.row_table.specs.Rule.{Table}
+use Rattle.row_table.specs.Rule.{Table, row_part}
 use Rattle.row_table.specs.Moves.{NotInHand}
 use Rattle.row_table.specs.Close.{IsReached}
 
@@ -23,3 +24,6 @@ module _ {R B E : Type 0} where
 
   abbrev pub RowsTrue : Layout → Table R B E → Type 0
   RowsTrue k s = (seat : List (PassView R B E)) → Contains s.views seat → (v : PassView R B E) → Contains seat v → (h : HeldRow R) → Contains v.rows h → HeldTrue k s.words v h
+
+  abbrev pub RowsShown : Table R B E → Type 0
+  RowsShown s = (seat : List (PassView R B E)) → Contains s.views seat → (v : PassView R B E) → Contains seat v → map row_part v.rows ≡ v.core.held
