@@ -1,0 +1,16 @@
+pub mod Order
+pub mod Held
+pub mod Lends
+pub mod Release
+pub mod Blank
+pub mod Zone
+pub mod Reached
+pub mod Covers
+pub mod Linked
+pub mod Tries
+pub mod Ways
+pub mod Descents
+pub mod Stages
+pub mod Covered
+pub mod Waits
+pub mod Spare
