@@ -1,0 +1,5 @@
+//! Callers of the subtree lock that rely on its public clauses alone, over a tree of four tables.
+#![tactic(auto)]
+
+#[cfg(test)]
+mod tests;
