@@ -20,7 +20,8 @@ impl<R: Drop, B: Drop, E> Play<Option<Content<R, B>>, LinkedList<PassView<R, B, 
 
 #[tactic(auto, unfolding(crate::specs::Passes::model_of, crate::specs::Passes::iron_model))]
 impl<P: Plan> Pass<P> {
-    /// Reads an entry word of a row that the pass stands on or holds. A link of the row that it stands on leads it to the linked row.
+    /// Reads an entry word of a row that the pass stands on or holds. A link of the row that it stands on leads it to the linked row,
+    /// also where it holds the row.
     pub fn look(&mut self, iron: &Iron<P>, row: u32, index: u32) -> u64
         requires table { IsPassOf iron.now self.old }
         requires inside { index < 512 }
