@@ -16,12 +16,15 @@ use tree_lock::{Held, Tried, Zone, release_all, try_cover};
 const ROOT: u64 = 4_198_919;
 
 // The pages below entries 5 and 6 of the root of a space.
-const FIFTH: u64 = 5 << 27;
+pub(crate) const FIFTH: u64 = 5 << 27;
 
-const SIXTH: u64 = 6 << 27;
+pub(crate) const SIXTH: u64 = 6 << 27;
 
 // A table with so many rows, and its two passes.
-fn made(alloc: Global, count: u32) -> Result<(Iron<Field>, Pass<Field>, Pass<Field>), AllocError>
+pub(crate) fn made(
+    alloc: Global,
+    count: u32,
+) -> Result<(Iron<Field>, Pass<Field>, Pass<Field>), AllocError>
     requires { (2 ≤ count) × (count ≤ 1024) }
     ensures sizes { IfOk result (λ r. (layout_of r.0).rows ≡ count) }
     ensures first { IfOk result (λ r. IsPassOf r.0 r.1 × IsIdle (view_of r.1)) }
@@ -87,7 +90,10 @@ fn take_root(iron: &Iron<Field>, mut pass: Pass<Field>) -> Option<(Pass<Field>, 
 }
 
 // Links a table below each of the root's entries 5 and 6, and answers their rows.
-fn grow(iron: &Iron<Field>, pass: Pass<Field>) -> Option<(Pass<Field>, Result<(u32, u32), Unsown>)>
+pub(crate) fn grow(
+    iron: &Iron<Field>,
+    pass: Pass<Field>,
+) -> Option<(Pass<Field>, Result<(u32, u32), Unsown>)>
     requires table { IsPassOf iron.now pass }
     requires idle { IsIdle (view_of pass) }
     ensures { MatchOption result ⊤ (λ r. IsPassOf iron.now r.0 × IsIdle (view_of r.0)) }
@@ -115,7 +121,7 @@ fn grow(iron: &Iron<Field>, pass: Pass<Field>) -> Option<(Pass<Field>, Result<(u
 }
 
 // A range of pages of space 0.
-fn pages(first: u64, count: u64, strict: bool) -> Zone
+pub(crate) fn pages(first: u64, count: u64, strict: bool) -> Zone
     requires first { (16 ≤ first) × (first < 2 ^ 33) }
     requires count { (1 ≤ count) × (count < 2 ^ 33) }
     ensures { IsZone result }
@@ -129,7 +135,7 @@ fn pages(first: u64, count: u64, strict: bool) -> Zone
 }
 
 // How many rows the list has, and what the first and the last one are.
-fn rows_of(held: &Held<bool>) -> (usize, Option<u32>, Option<u32>) {
+pub(crate) fn rows_of(held: &Held<bool>) -> (usize, Option<u32>, Option<u32>) {
     let rows = held.rows();
     (
         rows.len(),

@@ -5,10 +5,12 @@ use Rattle.row_table.specs.declared.view.PassView.{PassView}
 use Rattle.row_table.specs.declared.view.Finding.{Finding}
 use Rattle.row_table.specs.Known.{IsRight}
 use Rattle.row_table.specs.Crossings.{entered, left}
+use Rattle.row_table.specs.Close.{HasNothing, IsIdle}
 use Rattle.tree_lock.specs.declared.zone.Zone.{Zone}
 use Rattle.tree_lock.specs.declared.held.HeldRow.{HeldRow}
 use Rattle.tree_lock.specs.declared.below.Spot.{Spot}
 use Rattle.tree_lock.specs.Held.{IsInserted}
+use Rattle.tree_lock.specs.Release.{emptied}
 use Rattle.tree_lock.specs.Zone.{IsZone}
 use Rattle.tree_lock.specs.Covers.{HoldsAt, IsListOf}
 use Rattle.tree_lock.specs.Tries.{during, IsSameBut, IsFree}
@@ -124,4 +126,21 @@ module _ {R B E : Type 0} where
     rises = let r = h.rises in omega arith;
     listed = last.list;
     covers = covers_zone zone w x h.got u ys last grew;
+  }
+
+  -- ---- a pass that gave a cover back
+
+  pub free_of : (v : PassView R B E) → IsIdle v → IsFree v
+  free_of v idle = record { outside = idle.outside; holds_none = idle.held }
+
+  pub idle_still : (v w : PassView R B E) → IsStill v w → IsIdle v → IsIdle w
+  idle_still v w still idle = subst HasNothing (sym (ap (λ (y : PassView R B E). y.core) still)) idle
+
+  pub idle_again : (zone : Zone) (v w u : PassView R B E) (list : List (HeldRow R)) → CoverHeld zone v w list → u ≡ emptied w → IsIdle v → IsIdle u
+  idle_again zone v w u list held releases idle = record {
+    outside = ap (λ (y : PassView R B E). y.core.stand) releases ∙ held.outside;
+    held = ap (λ (y : PassView R B E). y.core.held) releases;
+    granted = ap (λ (y : PassView R B E). y.core.granted) releases ∙ ap (λ (y : PassView R B E). y.core.granted) held.same ∙ idle.granted;
+    unlinked = ap (λ (y : PassView R B E). y.core.unlinked) releases ∙ ap (λ (y : PassView R B E). y.core.unlinked) held.same ∙ idle.unlinked;
+    has_not = ap (λ (y : PassView R B E). y.core.has_book) releases ∙ ap (λ (y : PassView R B E). y.core.has_book) held.same ∙ idle.has_not;
   }

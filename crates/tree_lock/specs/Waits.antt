@@ -3,7 +3,7 @@
 --     IsStill      nothing but the epoch and the findings is another
 --     IsWorn      nothing but these is another, and the epoch word counts no more
 --     TopHeld, WaitsTop      the covering row is held alone;  what waiting for it comes to
---     ChildOf, WaitsChild      what a step at one entry answers without the holders;  findings alone, and then such a step
+--     answer_of, WaitsChild      what a step at one entry answers that finds no holder;  findings alone, and then such a step
 --     CoverHeld, Waits      the cover is held, and a list of it;  each answer, what the pass knows and the list afterwards
 use Rattle.std.specs.Prelude.{◌≡◌, ℕ, ◌^◌, ◌<◌, List, [], ◌++◌, Option, None, Some, Result, Ok, Err}
 use Rattle.row_table.specs.declared.answers.Worn.{Worn}
