@@ -8,7 +8,7 @@ from .page_map import PAGE
 FOLDED_FROM = 64
 FOLD = 12
 # The height of a band: the more the longer its life, as a share of all calls.
-LEAST, SHORT, LONG = 44, 80, 420
+EMPTY, LEAST, SHORT = 18, 44, 72
 
 
 def natural_height(pages):
@@ -26,10 +26,11 @@ def size_of(pages):
 class Band:
     """The rows of one life: (first page, end, height, kind), kind `mapped`, `gap` or `fold`, lowest addresses first."""
 
-    def __init__(self, life, share):
+    def __init__(self, life, share, most):
         self.rows = rows_of(life.pieces)
         natural = sum(row[2] for row in self.rows)
-        self.height = min(SHORT + (LONG - SHORT) * sqrt(share), max(LEAST, natural))
+        short = min(SHORT, most)
+        self.height = min(short + (most - short) * sqrt(share), max(LEAST, natural)) if self.rows else EMPTY
         scale = self.height / natural if natural else 1
         self.firsts = [row[0] for row in self.rows]
         self.tops, below = [], 0

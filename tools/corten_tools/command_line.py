@@ -56,4 +56,7 @@ def run(main, usage):
         status = 0
     except KeyboardInterrupt:
         status = 130
+    except Exception as error:  # no traceback for a reader who can't mend it
+        print(f"this is a fault of the program itself: {error!r}", file=sys.stderr)
+        status = 3
     sys.exit(status)

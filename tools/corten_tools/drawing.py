@@ -7,6 +7,8 @@ from .bands import Band, address, size_of
 
 LEFT, WIDTH, RIGHT = 100, 900, 100
 CURVE = 56
+# The greatest height of a band: less where many stand below each other.
+ALL_BANDS, LOWEST, HIGHEST = 2400, 64, 420
 MOST_TITLES = 2500
 MOST_CALL_TITLES = 1000
 KIND_NAMES = {"anon": "anonymous", "file": "file", "frame": "with a frame", "swapped": "swapped"}
@@ -36,8 +38,11 @@ class Picture:
     def text(self):
         self.head()
         titles = sum(len(life.pieces) for life in self.film.lives) <= MOST_TITLES
-        for life in self.film.lives:
-            self.space(life, titles)
+        lanes = lanes_of(self)
+        most = min(HIGHEST, max(LOWEST, ALL_BANDS / len(lanes)))
+        for lane in lanes:
+            self.lane(lane, titles, most)
+        self.homeless()
         self.curves()
         self.axis()
         width, height = LEFT + WIDTH + RIGHT, self.y
@@ -53,7 +58,8 @@ class Picture:
     def head(self):
         film = self.film
         self.add(svg.text(10, 20, self.name, TITLE))
-        told = f"{film.calls} answered calls, {len(film.refusals)} refused, {len(film.lives)} spaces; addresses grow upwards"
+        spaces = f"{len(film.lives)} address spaces" if len(film.lives) > 1 else "one address space"
+        told = f"{film.calls} answered calls, {len(film.refusals)} refused, {spaces}; addresses grow upwards, calls go to the right"
         self.add(svg.text(10, 36, told))
         self.y = 46
         x = 10
@@ -70,41 +76,45 @@ class Picture:
             self.add(svg.text(x + 18, self.y + 10, "refused"))
         self.y += 24
 
-    # One space.
+    # Spaces, one beside the other where they are not there at the same time.
 
-    def space(self, life, titles):
-        band = Band(life, (life.until - life.born) / self.columns)
+    def lane(self, lane, titles, most):
         self.y += 16
-        shown = f"space {life.number}"
-        if life.born > 0 or life.until < self.film.calls:
-            shown += f", calls {life.born} to {life.until}"
-        self.add(svg.text(10, self.y - 4, shown, BOLD))
-        bottom = self.y + band.height
-        left, right = self.x(life.born), self.x(life.until)
-        self.add(svg.rect(left, self.y, max(right - left, 1), band.height, 'fill="#f2f2f2"'))
-        self.folds(band, bottom)
-        self.pieces(life, band, bottom, titles)
-        self.labels(band, bottom)
-        self.refusals(life, band, bottom)
+        bands = [Band(life, (life.until - life.born) / self.columns, most) for life in lane]
+        bottom = self.y + max(band.height for band in bands)
+        room = 0
+        for life, band in zip(lane, bands):
+            self.space(life, band, bottom, titles)
+            if self.x(life.born) - room >= LEFT - 10:
+                self.labels(life, band, bottom)
+            room = max(self.x(life.until), name_start(self, life) + name_width(self, life))
+        self.fold_sizes(bands[-1], bottom)
         self.y = bottom + 8
 
-    def folds(self, band, bottom):
+    def space(self, life, band, bottom, titles):
+        top = bottom - band.height
+        self.add(svg.text(name_start(self, life), top - 4, life_name(self, life), BOLD))
+        left, right = self.x(life.born), self.x(life.until)
+        self.add(svg.rect(left, top, max(right - left, 1), band.height, 'fill="#f2f2f2"'))
+        for low, high, _ in band.folds():
+            middle = svg.number(bottom - (low + high) / 2)
+            self.add(svg.path(f"M{svg.number(left)} {middle}H{svg.number(right)}", 'stroke="#999" stroke-dasharray="2 4"'))
+        self.pieces(life, band, bottom, titles)
+        self.refusals(life, band, bottom)
+
+    def fold_sizes(self, band, bottom):
         for low, high, size in band.folds():
-            middle = bottom - (low + high) / 2
-            self.add(svg.path(f"M{LEFT} {svg.number(middle)}h{WIDTH}", 'stroke="#bbb" stroke-dasharray="2 4" fill="none"'))
             if high - low >= 7:
-                self.add(svg.text(LEFT + WIDTH + 4, middle + 3, f"{size} folded", SMALL))
+                self.add(svg.text(LEFT + WIDTH + 4, bottom - (low + high) / 2 + 3, f"{size} folded", SMALL))
 
     def pieces(self, life, band, bottom, titles):
         together = defaultdict(list)
-        for piece in sorted(life.pieces):
+        for piece in sorted(life.pieces, key=lambda piece: (piece.since, piece.first)):
             low, high = band.above(piece.first), band.above(piece.end)
             data = svg.box(self.x(piece.since), bottom - high, self.x(piece.until) - self.x(piece.since), high - low)
             look = (piece.cell.kind, piece.cell.perm)
             if titles:
-                told = (f"{address(piece.first)} to {address(piece.end)}, {size_of(piece.end - piece.first)}, "
-                        f"{KIND_NAMES[look[0]]} {look[1]}, calls {piece.since} to {piece.until}")
-                self.add(svg.path(data, self.look(*look), told))
+                self.add(svg.path(data, self.look(*look), told_piece(piece)))
             else:
                 together[look].append(data)
         for look, data in together.items():
@@ -114,21 +124,36 @@ class Picture:
     def look(kind, perm):
         return f'fill="url(#{svg.pattern_name(kind, perm)})" stroke="{svg.INK[kind]}" stroke-width=".3"'
 
-    def labels(self, band, bottom):
+    def labels(self, life, band, bottom):
         free = bottom + 10
         for page in band.runs():
-            y = max(bottom - band.above(page), self.y + 8)
+            y = max(bottom - band.above(page), bottom - band.height + 8)
             if y <= free - 9:
-                self.add(svg.text(LEFT - 5, y, address(page), f'text-anchor="end" {SMALL}'))
+                self.add(svg.text(self.x(life.born) - 5, y, address(page), f'text-anchor="end" {SMALL}'))
                 free = y
 
     def refusals(self, life, band, bottom):
         places = defaultdict(list)
         for refusal in self.film.refusals:
-            inside = life.born <= refusal.place < life.until or self.film.step > 1 and refusal.place == life.born
-            if refusal.space == life.number and inside:
-                y = bottom - band.above(refusal.page) if refusal.page is not None else bottom
-                places[round(self.x(refusal.place + 0.5)), round(max(self.y + 4, min(bottom - 4, y)))].append(refusal)
+            if refusal.life is life:
+                y = bottom - (band.above(refusal.page) if refusal.page is not None else 0)
+                y = round(max(bottom - band.height + 4, min(bottom - 4, y)))
+                places[round(self.x(refusal.place + 0.5)), y].append(refusal)
+        self.crosses(places)
+
+    def homeless(self):
+        """Refused calls whose space is absent, or that name none."""
+        places = defaultdict(list)
+        for refusal in self.film.refusals:
+            if refusal.life is None:
+                places[round(self.x(refusal.place + 0.5)), round(self.y + 24)].append(refusal)
+        if places:
+            self.add(svg.text(10, self.y + 12, "refused calls of no space that is there", BOLD))
+            self.add(svg.rect(LEFT, self.y + 16, WIDTH, 16, 'fill="#f2f2f2"'))
+            self.crosses(places)
+            self.y += 36
+
+    def crosses(self, places):
         for (x, y), refusals in places.items():
             self.add(self.cross(x, y, told_refusals(refusals)))
 
@@ -185,6 +210,45 @@ class Picture:
         for name, mine, theirs in differing_accounts(self.history, self.film):
             self.add(svg.text(10, self.y + 2, f"{name}: {theirs} at the end by the history's accounts, {mine} by this picture"))
             self.y += 16
+
+
+def life_name(picture, life):
+    shown = f"space {life.number}"
+    return shown if life.born == 0 and life.until == picture.columns else f"{shown}, calls {life.born} to {life.until}"
+
+
+def name_start(picture, life):
+    """Where the name of a life begins: above its first call, but for names that would leave the picture."""
+    if life.born == 0:
+        return 10
+    return min(picture.x(life.born), LEFT + WIDTH + RIGHT - name_width(picture, life))
+
+
+def name_width(picture, life):
+    """At least as wide as the name is drawn."""
+    return 7 * len(life_name(picture, life))
+
+
+def lanes_of(picture):
+    """The lives in the order of their births, each in the first lane in which nothing stands at its place."""
+    lanes, ends = [], []
+    for life in picture.film.lives:
+        start = name_start(picture, life)
+        name_end = start + name_width(picture, life)
+        lane = next((at for at, end in enumerate(ends) if end + 12 <= start), None)
+        if lane is None:
+            lane = len(lanes)
+            lanes.append([])
+            ends.append(0)
+        lanes[lane].append(life)
+        ends[lane] = max(name_end, picture.x(life.until))
+    return lanes
+
+
+def told_piece(piece):
+    cell = piece.cell
+    return (f"{address(piece.first)} to {address(piece.end)}, {size_of(piece.end - piece.first)}, "
+            f"{KIND_NAMES[cell.kind]} {cell.perm}, calls {piece.since} to {piece.until}")
 
 
 def differing_accounts(history, film):

@@ -12,8 +12,8 @@ MOST_STEPS = 4000
 Timed = namedtuple("Timed", "cell since")
 # Pages that were mapped alike from a call (`since`) up to another one (`until`).
 Piece = namedtuple("Piece", "first end cell since until")
-# A call that was refused, the space that it names (or None) and the page at which it was refused (or None).
-Refusal = namedtuple("Refusal", "place entry space page")
+# A call that was refused, the life of the space that it names (or None) and the page at which it was refused (or None).
+Refusal = namedtuple("Refusal", "place entry life page")
 
 
 class Life(Ranges):
@@ -86,7 +86,8 @@ class Film:
     def show(self, place, entry):
         self.now = place - place % self.step
         if not is_done(entry):
-            self.refusals.append(Refusal(place, entry, space_of(entry), refused_page(entry)))
+            space = self.replay.map.spaces.get(space_of(entry))
+            self.refusals.append(Refusal(place, entry, space and space.ranges, refused_page(entry)))
         elif entry.call.startswith("exit "):
             self.replay.map.spaces[space_of(entry)].ranges.close()
         self.replay.apply(entry)

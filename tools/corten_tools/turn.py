@@ -78,9 +78,12 @@ class Turner:
         self.memories = {}
         self.first = True
         self.call = None
+        self.pids = set()
+        self.several = False
 
     def turn(self, events):
         self.pids = {event.pid for event in events}
+        self.several = len({event.log for event in events}) > 1
         for self.call in events:
             if isinstance(self.call, End):
                 self.end_process(self.call.pid)
@@ -108,8 +111,16 @@ class Turner:
 
     # What is written.
 
+    def place_of_call(self):
+        """The line of the log; with the log's name where there are several."""
+        log = self.call.log.rpartition("/")[2]
+        return f"{log}:{self.call.line}" if self.several else str(self.call.line)
+
+    def reason(self, name, why):
+        self.reasons.setdefault((name, why), []).append(self.place_of_call())
+
     def comment(self, text):
-        self.items.append(Item(f"# line {self.call.line}: {text}", self.call.log, self.call.line, None, False, False))
+        self.items.append(Item(f"# line {self.place_of_call()}: {text}", self.call.log, self.call.line, None, False, False))
 
     def say(self, text, expect, added=False, touch=False):
         self.items.append(Item(text, self.call.log, self.call.line, expect, added, touch))
@@ -119,12 +130,12 @@ class Turner:
         shown = f"{call.name}({', '.join(call.args)})"
         self.comment(f"{shown if len(shown) <= 200 else shown[:197] + '...'}: {why}")
         self.left[call.name] += 1
-        self.reasons.setdefault((call.name, why), []).append(call.line)
+        self.reason(call.name, why)
 
     def add(self, text, expect, why):
         self.comment(f"added: {why}")
         self.say(text, expect, added=True)
-        self.added.setdefault(why, []).append(self.call.line)
+        self.added.setdefault(why, []).append(self.place_of_call())
 
     # Processes.
 
@@ -145,7 +156,7 @@ class Turner:
     def new_space(self, memory, why, added=False):
         if self.map.least_absent() is None:
             self.comment(f"process {self.call.pid} has no space: all 64 are present")
-            self.reasons.setdefault(("a process", "no space for it: all 64 are present"), []).append(self.call.line)
+            self.reason("process", "no space for it: all 64 are present")
             return
         memory.number = self.map.spawn()
         self.comment(f"process {self.call.pid} has space {memory.number}: {why}")
@@ -264,20 +275,19 @@ class Turner:
         """Says a mapping that the kernel granted, and maps it."""
         end = first + pages_of(length)
         fits = self.take_tables(memory, first, end)
-        perm = cell.perm
-        self.say(f"map {memory.number} {word} {first * PAGE:#x} {length} {perm} {kind}", ("at", first * PAGE))
-        self.map.map(memory.number, first, end, cell)
-        memory.left_out.put(first, end, None)
+        self.say(f"map {memory.number} {word} {first * PAGE:#x} {length} {cell.perm} {kind}", ("at", first * PAGE))
         if fits:
+            self.map.map(memory.number, first, end, cell)
             self.touch_pages(memory, first, end)
+        memory.left_out.put(first, end, None if fits else True)
 
     def take_tables(self, memory, first, end):
         lacking = self.map.missing_tables(memory.number, first, end)
         if self.map.tables_linked() + lacking <= TABLES:
             self.map.add_tables(memory.number, first, end)
             return True
-        self.comment(f"{TABLES} page tables are too few for the next call")
-        self.reasons.setdefault(("page tables", f"more than {TABLES} are wanted, and the call is refused"), []).append(self.call.line)
+        self.comment(f"{TABLES} page tables are too few for the next call, which is refused")
+        self.reason("mapping", f"refused here: more than {TABLES} page tables are wanted")
         return False
 
     def leave_range(self, memory, first, end):
@@ -333,10 +343,11 @@ class Turner:
         for start, stop, cell in self.map.spaces[memory.number].ranges.parts(first, end):
             if cell is None:
                 length = (stop - start) * PAGE
-                self.take_tables(memory, start, stop)
+                fits = self.take_tables(memory, start, stop)
                 self.add(f"map {memory.number} new {start * PAGE:#x} {length} rw- zero", ("at", start * PAGE),
                          "pages that no call of the log mapped, as an execve does")
-                self.map.map(memory.number, start, stop, fresh("rw-"))
+                if fits:
+                    self.map.map(memory.number, start, stop, fresh("rw-"))
 
     def on_brk(self, call, memory):
         self.there(memory)
@@ -402,10 +413,12 @@ class Turner:
             self.map.unmap(memory.number, first, end)
 
     def add_map(self, memory, first, end, perm):
-        self.take_tables(memory, first, end)
+        fits = self.take_tables(memory, first, end)
         self.add(f"map {memory.number} at {first * PAGE:#x} {(end - first) * PAGE} {perm} zero", ("at", first * PAGE),
                  "what an mremap leaves")
-        self.map.map(memory.number, first, end, fresh(perm))
+        if fits:
+            self.map.map(memory.number, first, end, fresh(perm))
+        memory.left_out.put(first, end, None if fits else True)
 
     # Touches.
 
@@ -419,7 +432,7 @@ class Turner:
             wants = self.map.wants_frame(memory.number, page, write)
             if wants and self.map.frames_used() == FRAMES:
                 self.comment(f"not touched: {FRAMES} frames are in use")
-                self.reasons.setdefault(("touch", f"{FRAMES} frames are in use"), []).append(self.call.line)
+                self.reason("touch", f"{FRAMES} frames are in use")
                 return
             if wants:
                 self.say(f"fault {memory.number} {page * PAGE:#x} {'w' if write else 'r'}", ("ok",), touch=True)
