@@ -5,3 +5,4 @@ pub mod Split
 pub mod Changed
 pub mod Walks
 pub mod Least
+pub mod Stretch

@@ -22,7 +22,7 @@ backing_here : (b : Backing) → backing_after b 0 ≡ b
 backing_here Zero = refl
 backing_here (File file index) = ap (File file) (omega arith)
 
-goes_on-zero : (mark : Mark) → goes_on mark 0 ≡ mark
+pub goes_on-zero : (mark : Mark) → goes_on mark 0 ≡ mark
 goes_on-zero mark = λ k. record { perm = mark.perm; backing = backing_here mark.backing k }
 
 module _ (spans : Spans) (runs : AreRuns spans) where

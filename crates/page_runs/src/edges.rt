@@ -1,6 +1,5 @@
 //! Splitting a run at a page, and joining two runs that meet there. Neither changes what stands at any page.
-ghost use Rattle.std.specs.Prelude.{◌≡◌, ℕ, ◌+◌, ◌^◌, ◌<◌, ◌≤◌, ◌↔◌, IsTrue, OnOk};
-ghost use Rattle.page_runs.specs.Mark.{goes_on, index_of};
+ghost use Rattle.std.specs.Prelude.{◌≡◌, ℕ, ◌+◌, ◌<◌, ◌≤◌, OnOk};
 ghost use Rattle.page_runs.specs.Spans.{AreRuns, IsEdge, marks};
 
 use crate::spans::{Span, Spans, add, at_or_before, put, take};
@@ -34,14 +33,6 @@ pub(crate) fn split(spans: &mut Spans, page: u64) -> Result<(), AllocError>
     Ok(())
 }
 
-/// Whether a run goes on from the one before it.
-fn goes_on(lower: Span, upper: Span) -> bool
-    requires { index_of lower.mark.backing + lower.count < 2 ^ 64 }
-    ensures { IsTrue result ↔ (goes_on lower.mark lower.count ≡ upper.mark) }
-{
-    lower.mark.after(lower.count).is(upper.mark)
-}
-
 /// Joins the run that starts at a page with the one that ends there, if the one goes on from the other.
 pub(crate) fn join(spans: &mut Spans, page: u64)
     requires { AreRuns spans.old }
@@ -60,7 +51,7 @@ pub(crate) fn join(spans: &mut Spans, page: u64)
     if lower.count != page - first {
         return;
     }
-    if goes_on(lower, upper) {
+    if lower.mark.continues(lower.count, upper.mark) {
         let both = Span {
             count: lower.count + upper.count,
             mark: lower.mark,

@@ -1,6 +1,6 @@
 //! What stands at a page of a mapping.
 ghost use Rattle.std.specs.Prelude.{◌≡◌, ◌+◌, ◌^◌, ◌<◌, ◌↔◌, IsTrue};
-ghost use Rattle.page_runs.specs.Mark.{goes_on, index_of, with_perm};
+ghost use Rattle.page_runs.specs.Mark.{backing_after, goes_on, index_of, with_perm};
 
 use corten_base::{Backing, Perm};
 
@@ -20,19 +20,29 @@ fn is_same_perm(a: Perm, b: Perm) -> bool
     a == b
 }
 
-/// Whether pages came from the same.
-fn is_same_backing(a: Backing, b: Backing) -> bool
-    ensures { IsTrue result ↔ (a ≡ b) }
+/// Whether one backing goes on from another so many pages further.
+fn backing_continues(first: Backing, pages: u64, later: Backing) -> bool
+    ensures { IsTrue result ↔ (backing_after first pages ≡ later) }
 {
-    a == b
+    match (first, later) {
+        (Backing::Zero, Backing::Zero) => true,
+        (
+            Backing::File { file, index },
+            Backing::File {
+                file: other,
+                index: at,
+            },
+        ) => { file == other && index <= at && at - index == pages }
+        _ => false,
+    }
 }
 
 impl Mark {
-    /// Whether two marks are the same.
-    pub fn is(self, other: Mark) -> bool
-        ensures { IsTrue result ↔ (self ≡ other) }
+    /// Whether another mark goes on from this one so many pages further.
+    pub fn continues(self, pages: u64, later: Mark) -> bool
+        ensures { IsTrue result ↔ (goes_on self pages ≡ later) }
     {
-        is_same_perm(self.perm, other.perm) && is_same_backing(self.backing, other.backing)
+        is_same_perm(self.perm, later.perm) && backing_continues(self.backing, pages, later.backing)
     }
 
     /// The mark that goes on from this one so many pages further.

@@ -4,7 +4,7 @@ ghost use Rattle.std.specs.Option.{option_map};
 ghost use Rattle.std.specs.FinMap as map;
 ghost use Rattle.page_map.specs.Change.{change, least};
 ghost use Rattle.page_runs.specs.Mark.{goes_on, index_of, with_perm};
-ghost use Rattle.page_runs.specs.Runs.{IsPart, HasNone, is_vacant};
+ghost use Rattle.page_runs.specs.Runs.{IsPart, HasNone, IsStretch, is_vacant};
 
 use crate::mark::Mark;
 use crate::ranges;
@@ -139,6 +139,27 @@ impl PageRuns {
         } else {
             None
         }
+    }
+
+    /// How many pages of a range go on from its first one: without marks after one without, whatever runs they are in.
+    pub fn stretch(&self, first: u64, end: u64) -> u64
+        requires { first < end }
+        ensures { IsStretch self.now first end result }
+    {
+        let Some(run) = self.part(first, end) else {
+            return end - first;
+        };
+        if first < run.first {
+            return run.first - first;
+        }
+        let mut count = run.count;
+        while let Some(next) = self.part(first + count, end) {
+            if first + count < next.first || !run.mark.continues(count, next.mark) {
+                return count;
+            }
+            count += next.count;
+        }
+        count
     }
 
     /// Puts marks that go on from one another in the place of what was there.
