@@ -59,14 +59,14 @@ class Picture:
         film = self.film
         self.add(svg.text(10, 20, self.name, TITLE))
         spaces = f"{len(film.lives)} address spaces" if len(film.lives) > 1 else "one address space"
-        told = f"{film.calls} answered calls, {len(film.refusals)} refused, {spaces}; addresses grow upwards, calls go to the right"
-        self.add(svg.text(10, 36, told))
+        told = f"{film.calls} answered calls, {len(film.refusals)} refused, {spaces}"
+        self.add(svg.text(10, 36, f"{told}; addresses grow upwards, calls go to the right"))
         self.y = 46
         x = 10
         for kind, perm in self.used:
             if x > LEFT + WIDTH - 60:
                 x, self.y = 10, self.y + 18
-            self.add(svg.rect(x, self.y, 26, 12, f'fill="url(#{svg.pattern_name(kind, perm)})" stroke="{svg.INK[kind]}" stroke-width=".6"'))
+            self.add(svg.rect(x, self.y, 26, 12, self.look(kind, perm)))
             self.add(svg.text(x + 31, self.y + 10, f"{KIND_NAMES[kind]} {perm}"))
             x += 145
         if film.refusals:
@@ -98,7 +98,8 @@ class Picture:
         self.add(svg.rect(left, top, max(right - left, 1), band.height, 'fill="#f2f2f2"'))
         for low, high, _ in band.folds():
             middle = svg.number(bottom - (low + high) / 2)
-            self.add(svg.path(f"M{svg.number(left)} {middle}H{svg.number(right)}", 'stroke="#999" stroke-dasharray="2 4"'))
+            line = f"M{svg.number(left)} {middle}H{svg.number(right)}"
+            self.add(svg.path(line, 'stroke="#999" stroke-dasharray="2 4"'))
         self.pieces(life, band, bottom, titles)
         self.refusals(life, band, bottom)
 
@@ -186,7 +187,8 @@ class Picture:
             if value != last:
                 data += f"H{svg.number(self.x(place))}V{svg.number(bottom - CURVE * value / max(1, most))}"
                 last = value
-        self.add(svg.path(data + f"H{LEFT + WIDTH}V{svg.number(bottom)}z", f'fill="{colour}" fill-opacity=".35" stroke="{colour}"'))
+        data += f"H{LEFT + WIDTH}V{svg.number(bottom)}z"
+        self.add(svg.path(data, f'fill="{colour}" fill-opacity=".35" stroke="{colour}"'))
         self.y = bottom + 4
 
     def axis(self):
@@ -208,7 +210,8 @@ class Picture:
     def accounts(self):
         """The replay counts what is in use; the history's last lines say it too."""
         for name, mine, theirs in differing_accounts(self.history, self.film):
-            self.add(svg.text(10, self.y + 2, f"{name}: {theirs} at the end by the history's accounts, {mine} by this picture"))
+            told = f"{name}: {theirs} at the end by the history's accounts, {mine} by this picture"
+            self.add(svg.text(10, self.y + 2, told))
             self.y += 16
 
 

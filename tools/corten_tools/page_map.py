@@ -11,7 +11,8 @@ from .ranges import Ranges
 PAGE = 4096
 SPACES = 64
 
-# `kind` is anon, file, frame or swapped. A file's page has the index `base` plus its number; `base` and `file` are None else.
+# `kind` is anon, file, frame or swapped. A file's page has the index `base` plus its number; else `file` and `base` are
+# None.
 Cell = namedtuple("Cell", "kind perm file base")
 
 
@@ -58,21 +59,26 @@ class PageMap:
         """The number of the next space, or None where all are present."""
         return next((number for number in range(SPACES) if number not in self.spaces), None)
 
-    def spawn(self):
+    def _absent(self):
         number = self.least_absent()
+        if number is None:
+            raise KeyError("no space is absent")
+        return number
+
+    def spawn(self):
+        number = self._absent()
         self.spaces[number] = Space(self.make())
         return number
 
     def fork(self, number):
         old = self.spaces[number]
-        child = self.least_absent()
+        child = self._absent()
         new = self.spaces[child] = Space(old.ranges.copy())
         new.frames = dict(old.frames)
         new.slots = dict(old.slots)
         self.frame_owners.update(new.frames.values())
         self.slot_owners.update(new.slots.values())
-        for first, end, _ in new.ranges:
-            self.add_tables(child, first, end)
+        new.tables = self.tables_of_fork(number)
         return child
 
     def exit(self, number):
@@ -181,8 +187,16 @@ class PageMap:
             missing += high - low + 1 - there
         return missing
 
+    def tables_of_fork(self, number):
+        """The tables below the root that a copy of the space gets."""
+        return {table for first, end, _ in self.spaces[number].ranges for table in self._tables_above(first, end)}
+
     def add_tables(self, number, first, end):
-        tables = self.spaces[number].tables
+        self.spaces[number].tables.update(self._tables_above(first, end))
+
+    def _tables_above(self, first, end):
+        tables = set()
         for level in range(1, self.levels):
             low, high = first // self._span(level), (end - 1) // self._span(level)
             tables.update((level, prefix) for prefix in range(low, high + 1))
+        return tables
