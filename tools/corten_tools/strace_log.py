@@ -23,7 +23,7 @@ ENDED = re.compile(r"\+\+\+ (?:exited with|killed by) .*\+\+\+$")
 SUPERSEDED = re.compile(r"\+\+\+ superseded by execve in pid (\d+) \+\+\+$")
 SKIPPED = re.compile(r"--- .* ---$|strace: Process \d+ (?:at|de)tached|\[ Process PID=\d+ runs in .* mode. \]$")
 RESULT = re.compile(r"\s*= (-?\d+|0x[0-9a-f]+|\?)(?:<[^>]*>)?(?: (E[A-Z0-9]+))?(?= |$)")
-PIECE = re.compile(r'"(?:\\.|[^"\\])*"|<[^<>\s][^<>]*>|/\*.*?\*/|.', re.S)
+PIECE = re.compile(r'"(?:\\.|[^"\\])*"|<[^<>\s][^<>]*>|/\*.*?\*/|[^"<>/\[\](){},]+|.', re.S)
 
 
 class Opened(namedtuple("Opened", "name text place line")):

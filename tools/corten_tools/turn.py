@@ -223,7 +223,7 @@ class Turner:
             self.fork(child, self.there(memory))
 
     def fork(self, child, memory):
-        lack = self.lack_of_space(len(self.map.tables_of_fork(memory.number)))
+        lack = self.lack_of_space(sum(map(len, self.map.tables_of_fork(memory.number).values())))
         if lack:
             self.use(child, memory.copy(None))
             raise Left(f"no space for the child: {lack}")
