@@ -7,6 +7,8 @@ from .bands import Band, address, size_of
 
 LEFT, WIDTH, RIGHT = 100, 900, 100
 CURVE = 56
+# Below this height the edges would hide what they enclose; nothing is drawn smaller than so that it is seen.
+THIN, LEAST = 2.5, 0.5
 # The greatest height of a band: less where many stand below each other.
 ALL_BANDS, LOWEST, HIGHEST = 2400, 64, 420
 MOST_TITLES = 2500
@@ -112,18 +114,20 @@ class Picture:
         together = defaultdict(list)
         for piece in sorted(life.pieces, key=lambda piece: (piece.since, piece.first)):
             low, high = band.above(piece.first), band.above(piece.end)
-            data = svg.box(self.x(piece.since), bottom - high, self.x(piece.until) - self.x(piece.since), high - low)
-            look = (piece.cell.kind, piece.cell.perm)
+            left, right = self.x(piece.since), self.x(piece.until)
+            data = svg.box(left, bottom - high, max(right - left, LEAST), max(high - low, LEAST))
+            look = self.look(piece.cell.kind, piece.cell.perm, high - low >= THIN)
             if titles:
-                self.add(svg.path(data, self.look(*look), told_piece(piece)))
+                self.add(svg.path(data, look, told_piece(piece)))
             else:
                 together[look].append(data)
         for look, data in together.items():
-            self.add(svg.path("".join(data), self.look(*look)))
+            self.add(svg.path("".join(data), look))
 
     @staticmethod
-    def look(kind, perm):
-        return f'fill="url(#{svg.pattern_name(kind, perm)})" stroke="{svg.INK[kind]}" stroke-width=".3"'
+    def look(kind, perm, edged=True):
+        edge = f' stroke="{svg.INK[kind]}" stroke-width=".3"' if edged else ""
+        return f'fill="url(#{svg.pattern_name(kind, perm)})"{edge}'
 
     def labels(self, life, band, bottom):
         free = bottom + 10
@@ -257,8 +261,8 @@ def told_piece(piece):
 def differing_accounts(history, film):
     end = film.replay.map
     frames, swap, tables = history.accounts
-    counted = (("frames in use", film.frames[-1] if film.frames else 0, frames[0] - frames[1]),
-               ("swap slots in use", film.slots[-1] if film.slots else 0, swap[2]),
+    counted = (("frames in use", film.frames[-1], frames[0] - frames[1]),
+               ("swap slots in use", film.slots[-1], swap[2]),
                ("page tables", end.tables_linked(), tables[1]))
     return [(name, mine, theirs) for name, mine, theirs in counted if mine != theirs]
 

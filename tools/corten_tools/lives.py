@@ -80,6 +80,8 @@ class Film:
             except (KeyError, AttributeError, IndexError, ValueError):
                 raise Fault(f"{shown_path(path)}:{entry.line}: expected a reply that fits the calls before it, as "
                             f"'cortenmm check' does, found '{entry.reply[:60]}'") from None
+        if not history.entries:
+            self.count()
         self.now = max(1, self.calls)
         for space in self.replay.map.spaces.values():
             space.ranges.close()
@@ -98,6 +100,9 @@ class Film:
         self.replay.apply(entry)
         if entry.call.startswith(("fork", "spawn")):
             self.name_lives()
+        self.count()
+
+    def count(self):
         self.frames.append(self.replay.map.frames_used())
         self.tables.append(self.replay.map.tables_linked())
         self.slots.append(self.replay.map.slots_used())
