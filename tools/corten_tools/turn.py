@@ -164,6 +164,8 @@ class Turner:
         memory.number = self.map.spawn()
         self.comment(f"process {self.call.pid} has space {memory.number}: {why}")
         self.say("spawn", ("space", memory.number), added=added)
+        if added:
+            self.added.setdefault("a space for a process that no call of the log made", []).append(self.place_of_call())
 
     def lack_of_space(self, tables):
         """Why there can't be one space more, with so many tables below its root, or None."""
