@@ -29,6 +29,9 @@ class Picture:
         self.parts = []
         self.y = 0
         self.columns = max(1, film.calls)
+        self.refused = defaultdict(list)
+        for refusal in film.refusals:
+            self.refused[id(refusal.life)].append(refusal)
         self.used = sorted({(piece.cell.kind, piece.cell.perm) for life in film.lives for piece in life.pieces})
 
     def x(self, place):
@@ -51,7 +54,7 @@ class Picture:
         patterns = "".join(svg.pattern(kind, perm) for kind, perm in self.used)
         return "\n".join([
             f'<svg xmlns="http://www.w3.org/2000/svg" width="{width}" height="{svg.number(height)}" '
-            f'viewBox="0 0 {width} {svg.number(height)}">',
+            f'viewBox="0 0 {width} {svg.number(height)}" role="img" aria-label="{svg.escape(self.name)}">',
             f"<style>{STYLE}</style><defs>{patterns}</defs>",
             svg.rect(0, 0, width, height, 'fill="#fff"'), *self.parts, "</svg>", ""])
 
@@ -139,19 +142,17 @@ class Picture:
 
     def refusals(self, life, band, bottom):
         places = defaultdict(list)
-        for refusal in self.film.refusals:
-            if refusal.life is life:
-                y = bottom - (band.above(refusal.page) if refusal.page is not None else 0)
-                y = round(max(bottom - band.height + 4, min(bottom - 4, y)))
-                places[round(self.x(refusal.place + 0.5)), y].append(refusal)
+        for refusal in self.refused[id(life)]:
+            y = bottom - (band.above(refusal.page) if refusal.page is not None else 0)
+            y = round(max(bottom - band.height + 4, min(bottom - 4, y)))
+            places[round(self.x(refusal.place + 0.5)), y].append(refusal)
         self.crosses(places)
 
     def homeless(self):
         """Refused calls whose space is absent, or that name none."""
         places = defaultdict(list)
-        for refusal in self.film.refusals:
-            if refusal.life is None:
-                places[round(self.x(refusal.place + 0.5)), round(self.y + 24)].append(refusal)
+        for refusal in self.refused[id(None)]:
+            places[round(self.x(refusal.place + 0.5)), round(self.y + 24)].append(refusal)
         if places:
             self.add(svg.text(10, self.y + 12, "refused calls of no space that is there", BOLD))
             self.add(svg.rect(LEFT, self.y + 16, WIDTH, 16, 'fill="#f2f2f2"'))

@@ -17,9 +17,8 @@ SWAP = 4096
 Item = namedtuple("Item", "text log line expect added touch")
 
 PROTECTIONS = {"PROT_NONE": "", "PROT_READ": "r", "PROT_WRITE": "w", "PROT_EXEC": "x"}
-SHARED = "a shared mapping"
 LEFT_OUT_FLAGS = {
-    "MAP_SHARED": SHARED, "MAP_SHARED_VALIDATE": SHARED,
+    "MAP_SHARED": "a shared mapping", "MAP_SHARED_VALIDATE": "a shared mapping",
     "MAP_GROWSDOWN": "a mapping that grows downwards", "MAP_HUGETLB": "huge pages",
 }
 # Calls of strace's sets `memory` and `process` with no counterpart here. Of others nothing is said at all.
@@ -176,14 +175,12 @@ class Turner:
         return None
 
     def drop_user(self, pid):
-        """Takes a process out of its memory. True where an `exit` was said."""
+        """Takes a process out of its memory, whose space ends with the last one."""
         memory = self.memories[pid]
         memory.users.discard(pid)
-        if memory.users or memory.number is None:
-            return False
-        self.say(f"exit {memory.number}", ("ok",))
-        self.map.exit(memory.number)
-        return True
+        if not memory.users and memory.number is not None:
+            self.say(f"exit {memory.number}", ("ok",))
+            self.map.exit(memory.number)
 
     def end_process(self, pid):
         if pid in self.memories:
@@ -205,9 +202,10 @@ class Turner:
             self.silent[call.name] += 1
         else:
             self.drop_user(call.pid)
-            self.use(call.pid, Memory(None))
-            self.new_space(self.memories[call.pid], f"it executes {call.args[0]}")
-            self.said[call.name] += 1
+            new = Memory(None)
+            self.use(call.pid, new)
+            self.new_space(new, f"it executes {call.args[0]}")
+            (self.left if new.number is None else self.said)[call.name] += 1
 
     on_execveat = on_execve
 
