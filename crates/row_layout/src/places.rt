@@ -81,23 +81,3 @@ pub fn places_are_distinct()
     ensures distinct { (l : Layout) (a b : Word) → IsLayout l → IsThere l a → IsThere l b → place l a ≡ place l b → a ≡ b }
     ensures in_range { (l : Layout) (a : Word) → IsLayout l → IsThere l a → place l a < word_count l }
 {}
-
-#[cfg(test)]
-mod tests {
-    use super::*;
-
-    #[test]
-    fn places_of_the_greatest_layout(rt: HostRuntime) {
-        let layout = Layout {
-            rows: 1024,
-            passes: 8,
-        };
-        assert_eq!(rt; layout.entry(0, 0), 0);
-        assert_eq!(rt; layout.entry(1, 511), 1026);
-        assert_eq!(rt; layout.lock(1), 1027);
-        assert_eq!(rt; layout.position(1), 1028);
-        assert_eq!(rt; layout.generation(1), 1029);
-        assert_eq!(rt; layout.epoch(0), 527_360);
-        assert_eq!(rt; layout.book(), 527_368);
-    }
-}

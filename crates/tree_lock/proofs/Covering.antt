@@ -18,7 +18,11 @@ use Rattle.tree_lock.specs.Held.{row_numbers, IsInserted}
 use Rattle.tree_lock.specs.Order.{IsSpelled}
 use Rattle.tree_lock.specs.Release.{MayReleaseAll, emptied}
 use Rattle.tree_lock.specs.Zone.{child_place, IsTable, IsMet, IsZone}
-use Rattle.tree_lock.specs.Reached.{IsTaken}
+use Rattle.tree_lock.specs.Reached.{IsOnTheWay, IsTaken}
+use Rattle.tree_lock.specs.Covers.{IsTop as IsTopOfZone}
+use Rattle.std.specs.Prelude.{slice_index}
+use Rattle.walk_core.specs.Words.{is_link}
+use Rattle.std.proofs.Common.{false}
 use Rattle.tree_lock.specs.Covers.{HoldsAt, LinksHeld, CoversZone, IsListed, IsListOf}
 use Rattle.tree_lock.specs.Tries.{during, IsSameBut}
 use Rattle.tree_lock.specs.Descents.{IsOver, IsGot}
@@ -46,6 +50,11 @@ spelled_directory = record { space = omega arith; low = omega arith; high = omeg
 
 pub spelled_over : (zone : Zone) (row : ℕ) (place : Place) → IsOver zone row place → IsSpelled place
 spelled_over zone row place over = ⊎_elim (λ (e : place ≡ directory). subst IsSpelled (sym e) spelled_directory) (λ (h : is_place 4 place ≡ true). spelled_table 4 place (omega arith) h) over.table
+
+top_lowest : {R : Type 0} (zone : Zone) (h : KnownRow R) → IsTopOfZone zone h → (index : ℕ) → index < 512 → IsOnTheWay zone (child_place h.place index) → is_link (slice_index h.words index) ≡ false
+top_lowest (Pages s f c b) h is index few way = is.1 index few way
+top_lowest (Space s) h is index few way = absurd way
+top_lowest Directory h is index few way = absurd way
 
 module _ {R B E : Type 0} where
   -- ---- the covering row alone
@@ -93,6 +102,7 @@ module _ {R B E : Type 0} where
           in_tree = subst (NotInHand v) (sym got.same_row) got.listed.linked;
           links = 0;
           taken = taken;
+          lowest = top_lowest zone got.only got.is_top;
         }
 
     -- ---- the cover

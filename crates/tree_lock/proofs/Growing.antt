@@ -22,7 +22,12 @@ use Rattle.tree_lock.specs.declared.held.HeldRow.{HeldRow}
 use Rattle.tree_lock.specs.declared.below.Spot.{Spot}
 use Rattle.tree_lock.specs.Held.{row_numbers}
 use Rattle.tree_lock.specs.Zone.{child_place, Meets, IsTable, IsMet}
-use Rattle.tree_lock.specs.Reached.{FoundNoLink, FoundJust, IsReached, LedTo, IsTaken}
+use Rattle.tree_lock.specs.Reached.{IsOnTheWay, FoundNoLink, FoundJust, IsReached, LedTo, IsTaken}
+use Rattle.tree_lock.proofs.Meeting.{IsPlaced, child_parts}
+use Rattle.table_place.specs.Place.{has_page}
+use Rattle.table_place.proofs.Entries.{page_from}
+use Rattle.table_place.proofs.Spans.{quotient_up}
+use Rattle.std.proofs.Common.{◌-◌, ◌/◌, ◌^◌}
 use Rattle.tree_lock.specs.Covers.{HoldsAt, LinksHeld, LinkedBy, IsListed, IsListOf}
 use Rattle.tree_lock.specs.Tries.{during, IsSameBut}
 use Rattle.tree_lock.specs.Stages.{IsStaged, IsStage, AreThere, IsFresh, Sees, after_look, after_grab, GetsChild, MissesChild, Grew, IsBarred}
@@ -84,6 +89,25 @@ reached_more (Pages s f c b) fs gs row place h = (h.0, ⊎_elim (λ two. inl two
 reached_more (Space s) fs gs row place h = h
 reached_more Directory fs gs row place h = h
 
+-- what is on the way below an entry is on the way at the table
+up_page : (p : Place) (i s n : ℕ) → IsPlaced p → i < 512 → has_page (child_place p i) s n ≡ true → has_page p s n ≡ true
+up_page p i s n at inside h =
+    let is = child_parts p i at s n h in
+    let low = at.low in
+    let up : n / 512 ^ (p.level - 1 + 1) ≡ n / 512 ^ (p.level - 1) / 512 = quotient_up n (p.level - 1) in
+    let same : p.level - 1 + 1 ≡ p.level = omega arith in
+    let there : n / 512 ^ p.level ≡ n / 512 ^ (p.level - 1) / 512 = ap (λ (k : ℕ). n / 512 ^ k) (sym same) ∙ up in
+    let number = is.1 in
+    page_from p s n (let high = at.high in omega arith) is.0 (omega arith)
+
+way_up : (zone : Zone) (p : Place) (i : ℕ) → is_place 4 p ≡ true → i < 512 → IsOnTheWay zone (child_place p i) → IsOnTheWay zone p
+way_up (Pages s f c b) p i is inside way = record {
+  all = λ t n has. up_page p i t n (placed p is) inside (way.all t n has);
+  greater = λ strict lies. way.greater strict (λ t n h. lies t n (up_page p i t n (placed p is) inside h));
+}
+way_up (Space s) p i is inside way = absurd way
+way_up Directory p i is inside way = absurd way
+
 pub taken_more : (zone : Zone) (fs gs : List Finding) (n row : ℕ) (place : Place) → IsTaken zone fs n row place → IsTaken zone (fs ++ gs) n row place
 taken_more zone fs gs zero row place h = (reached_more zone fs gs row place h.0, Contains-append_left fs gs _ h.1)
 taken_more zone fs gs (suc n) row place h = (h.0, h.1, taken_more zone fs gs n h.0 h.1 h.2, led_more zone fs gs h.0 h.1 row place h.3, Contains-append_left fs gs _ h.4)
@@ -124,7 +148,7 @@ module _ {R B E : Type 0} where
     };
     below = s.below;
     rows = s.rows;
-    each = λ h has. let a = s.each h has in record { met = a.met; level = a.level; there = a.there; in_tree = a.in_tree; links = a.links; taken = taken_more zone v.findings more a.links h.row h.place a.taken };
+    each = λ h has. let a = s.each h has in record { met = a.met; level = a.level; there = a.there; in_tree = a.in_tree; links = a.links; taken = taken_more zone v.findings more a.links h.row h.place a.taken; lowest = a.lowest };
     linked = λ h has. let l = s.linked h has in record { linker = l.linker; held = l.held; index = l.index; inside = l.inside; link = l.link; to_row = l.to_row; is_below = l.is_below; meets = l.meets };
   }))
 
@@ -242,7 +266,13 @@ module _ {R B E : Type 0} where
         more n row place t = subst (λ (fs : List Finding). IsTaken zone fs n row place) (sym found) (taken_more zone v.findings (finding at.row at.place (Some index) gets.word ∷ finding child.row child.place None 0 ∷ []) n row place t)
 
         old_staged : (q : KnownRow R) → Contains v.rows q → IsStaged zone top w q
-        old_staged q old = let a = s.each q old in record { met = a.met; level = a.level; there = subst (λ (y : PassView R B E). q.row < y.layout.rows) (sym gets.now) a.there; in_tree = subst (λ (y : PassView R B E). NotInHand y q.row) (sym gets.now) a.in_tree; links = a.links; taken = more a.links q.row q.place a.taken }
+        old_staged q old = let a = s.each q old in record { met = a.met; level = a.level; there = subst (λ (y : PassView R B E). q.row < y.layout.rows) (sym gets.now) a.there; in_tree = subst (λ (y : PassView R B E). NotInHand y q.row) (sym gets.now) a.in_tree; links = a.links; taken = more a.links q.row q.place a.taken; lowest = a.lowest }
+
+        off_way : ¬ (IsOnTheWay zone (child_place at.place index))
+        off_way way =
+            let none = (s.each h.known h.held).lowest index inside (subst (λ (p : Place). IsOnTheWay zone (child_place p index)) (sym h.same_place) way) in
+            let yes : is_link (slice_index h.known.words index) ≡ true = ap is_link (sym (gets.sees h.known h.held h.same_row)) ∙ gets.link in
+            absurd (cc)
 
         new_staged : IsStaged zone top w new_row
         new_staged = let a = s.each h.known h.held in record {
@@ -258,6 +288,7 @@ module _ {R B E : Type 0} where
             record { index = index; inside = inside; is_below = gets.is_below; meets = met; word = gets.word; look = subst (λ (fs : List Finding). Contains fs (finding at.row at.place (Some index) gets.word)) (sym found) (Contains-append_right v.findings _ _ (0, omega arith, refl)); link = gets.link; to_row = gets.to_row },
             subst (λ (fs : List Finding). Contains fs (finding child.row child.place None 0)) (sym found) (Contains-append_right v.findings _ _ (1, omega arith, refl)),
           );
+          lowest = λ i few way. absurd (off_way (subst (IsOnTheWay zone) gets.is_below (way_up zone child.place i gets.table few way)));
         }
 
     pub same_but_child : IsSameBut v w
@@ -380,12 +411,19 @@ module _ {R B E : Type 0} where
         above = at.place;
         taken = subst (λ (p : Place). IsTaken zone u.findings staged.links at.row p) h.same_place (subst (λ (r : ℕ). IsTaken zone u.findings staged.links r h.known.place) h.same_row
             (subst (λ (fs : List Finding). IsTaken zone fs staged.links h.known.row h.known.place) (sym found) (taken_more zone w.findings _ staged.links h.known.row h.known.place staged.taken)));
+        not_on_the_way = off_way;
         leads = record { index = i; inside = inside; is_below = refl; meets = meets; word = misses.word; look = subst (λ (fs : List Finding). Contains fs (finding at.row at.place (Some i) misses.word)) (sym found) (Contains-append_right w.findings _ _ (0, omega arith, refl)); link = misses.link; to_row = misses.to_row };
       };
     }
       where
         staged : IsStaged zone top w h.known
         staged = s.each h.known h.held
+
+        off_way : ¬ (IsOnTheWay zone (child_place at.place i))
+        off_way way =
+            let none = staged.lowest i inside (subst (λ (p : Place). IsOnTheWay zone (child_place p i)) (sym h.same_place) way) in
+            let yes : is_link (slice_index h.known.words i) ≡ true = ap is_link (sym (misses.sees h.known h.held h.same_row)) ∙ misses.link in
+            absurd (cc)
 
         found : u.findings ≡ w.findings ++ (finding at.row at.place (Some i) misses.word ∷ finding (link_row misses.word) (child_place at.place i) None (held_by seat) ∷ [])
         found = ap (λ (y : PassView R B E). y.findings) found_both

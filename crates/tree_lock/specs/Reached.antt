@@ -15,6 +15,12 @@ use Rattle.tree_lock.specs.declared.zone.Zone.{Zone}
 use Rattle.tree_lock.specs.declared.zone.Zone.TheVariants.{Pages, Space, Directory}
 use Rattle.tree_lock.specs.Zone.{child_place, IsStrict, Meets, HasAll, LiesIn, Spans, MeetsTwo}
 
+-- the span may cover the zone, so that a descent goes on from there
+abbrev pub IsOnTheWay : Zone → Place → Type 0
+IsOnTheWay (Pages s f c b) place = Spans (Pages s f c b) place
+IsOnTheWay (Space s) place = ⊥
+IsOnTheWay Directory place = ⊥
+
 pub record LastGrab (fs : List Finding) (row : ℕ) (place : Place) (word : ℕ) : Type 0 where
   pub before : List Finding
   pub after : List Finding
@@ -68,3 +74,4 @@ pub record IsBelow (zone : Zone) (fs : List Finding) (row : ℕ) (place : Place)
   pub above : Place
   pub taken : IsTaken zone fs count linker above
   pub leads : LedTo zone fs linker above row place
+  pub not_on_the_way : ¬ (IsOnTheWay zone place)

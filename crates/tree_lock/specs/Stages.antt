@@ -23,7 +23,7 @@ use Rattle.tree_lock.specs.declared.below.Child.{Child}
 use Rattle.tree_lock.specs.declared.below.Child.TheVariants.{Nothing, Got, Busy}
 use Rattle.tree_lock.specs.Held.{IsInserted}
 use Rattle.tree_lock.specs.Zone.{child_place, IsMet}
-use Rattle.tree_lock.specs.Reached.{LastGrab, IsTaken, IsBelow}
+use Rattle.tree_lock.specs.Reached.{IsOnTheWay, LastGrab, IsTaken, IsBelow}
 use Rattle.tree_lock.specs.Covers.{LinksHeld, LinkedBy, IsListOf}
 
 module _ {R B E : Type 0} where
@@ -34,6 +34,7 @@ module _ {R B E : Type 0} where
     pub in_tree : NotInHand v h.row
     pub links : ℕ
     pub taken : IsTaken zone v.findings links h.row h.place
+    pub lowest : (index : ℕ) → index < 512 → IsOnTheWay zone (child_place h.place index) → is_link (slice_index h.words index) ≡ false
 
   pub record IsStage (zone : Zone) (top : KnownRow R) (v : PassView R B E) (xs : List (HeldRow R)) : Type 0 where
     pub outside : v.core.stand ≡ None

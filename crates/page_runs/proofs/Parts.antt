@@ -1,0 +1,106 @@
+-- What is left of a run from a page on, and the next run.
+use Rattle.std.proofs.Common.{◌≡◌, ℕ, ◌+◌, ◌-◌, ◌<◌, ◌≤◌, refl, sym, ap, ◌∙◌, arith, subst}
+use mathlib.Core.Logic.{inl, inr}
+use Rattle.std.specs.Prelude.{Option, Some, None}
+use Rattle.std.specs.Ordering.{nat_cmp}
+use Rattle.std.specs.List.Sorted.{IsStrictlySortedBy}
+use Rattle.std.specs.Map.{lookup, keys_of}
+use Rattle.std.specs.BTreeMap.{is_at}
+use Rattle.std.specs.FinMap.{get}
+use Rattle.std.proofs.lemmas.Bool.{cases_lt}
+use Rattle.corten_base.specs.declared.calls.Backing.{Backing}
+use Rattle.corten_base.specs.declared.calls.Backing.TheVariants.{Zero, File}
+use Rattle.page_runs.specs.declared.mark.Mark.{Mark}
+use Rattle.page_runs.specs.declared.spans.Span.{Span}
+use Rattle.page_runs.specs.Mark.{goes_on, backing_after}
+use Rattle.page_runs.specs.Spans.{Spans, Marks, span_at, marks, AreRuns, IsLastUpTo, IsFirstFrom, IsRest}
+use Rattle.page_runs.specs.Runs.{HasNone, IsPart}
+use Rattle.page_runs.proofs.Views.{has, has_none, not_some}
+use Rattle.page_runs.proofs.Split.{goes_on-goes_on}
+
+backing_here : (b : Backing) → backing_after b 0 ≡ b
+backing_here Zero = refl
+backing_here (File file index) = ap (File file) (omega arith)
+
+goes_on-zero : (mark : Mark) → goes_on mark 0 ≡ mark
+goes_on-zero mark = λ k. record { perm = mark.perm; backing = backing_here mark.backing k }
+
+module _ (spans : Spans) (runs : AreRuns spans) where
+  -- the pages of a run
+  run_has : (first : ℕ) (span : Span) → span_at spans first ≡ Some span → (i : ℕ) → i < span.count → get (marks spans) (first + i) ≡ Some (goes_on span.mark i)
+  run_has first span there i below = has spans runs (first + i) (goes_on span.mark i) (record { first = first; span = span; place = i; there = there; below = below; is_page = refl; carries = refl })
+
+  module _ (page first : ℕ) (span : Span) (at : IsLastUpTo spans page first span) where
+    pub is_rest : page - first < span.count → IsRest (marks spans) page (record { count = span.count - (page - first); mark = goes_on span.mark (page - first) })
+    is_rest inside =
+        let place : ℕ = page - first in
+        let back : first + place ≡ page = omega (arith, at.near) in
+        record {
+          some = omega (arith, inside);
+          here = ap (get (marks spans)) (sym back) ∙ run_has first span at.there place inside;
+          there = λ i below.
+              let sum : page + i ≡ first + (place + i) = omega (arith, at.near) in
+              ap (get (marks spans)) sum ∙ run_has first span at.there (place + i) (omega (arith, below)) ∙ ap Some (sym (goes_on-goes_on span.mark place i));
+        }
+
+    pub no_rest : span.count ≤ page - first → get (marks spans) page ≡ None
+    no_rest far = has_none spans runs page (λ mark of. elim (cases_lt first of.first) [
+      | inl after ↦ not_some (sym (at.last of.first after (omega (arith, of.is_page))) ∙ of.there)
+      | inr upto ↦ elim (cases_lt of.first first) [
+        | inl before ↦ let end = runs.apart of.first first of.span span of.there at.there before in omega (arith, end, of.below, of.is_page, at.near)
+        | inr from ↦
+            let same : of.first ≡ first = omega (arith, upto, from) in
+            let is : of.span ≡ span = span_is of.first same of.span of.there in
+            let many : of.span.count ≡ span.count = ap (λ s. s.count) is in
+            omega (arith, many, of.below, of.is_page, same, far)
+      ]
+    ])
+      where
+        span_is : (k : ℕ) → k ≡ first → (s : Span) → span_at spans k ≡ Some s → s ≡ span
+        span_is k same s is = let e : ◌≡◌ {A = Option Span} (Some s) (Some span) = sym is ∙ ap (span_at spans) same ∙ at.there in cc
+
+  pub none_up_to : (page : ℕ) → ((q : ℕ) → q ≤ page → span_at spans q ≡ None) → get (marks spans) page ≡ None
+  none_up_to page none = has_none spans runs page (λ mark of. not_some (sym (none of.first (omega (arith, of.is_page))) ∙ of.there))
+
+  -- no run has the range's first page, and none starts between it and the next one
+  none_between : (first next : ℕ) → get (marks spans) first ≡ None → ((q : ℕ) → first ≤ q → q < next → span_at spans q ≡ None) → HasNone (marks spans) first next
+  none_between first next none least page low high = has_none spans runs page (λ mark of. elim (cases_lt of.first first) [
+    | inl before ↦
+        let place : of.first + (first - of.first) ≡ first = omega (arith, before) in
+        not_some (sym none ∙ ap (get (marks spans)) (sym place) ∙ run_has of.first of.span of.there (first - of.first) (omega (arith, of.below, of.is_page, low, before)))
+    | inr from ↦ not_some (sym (least of.first from (omega (arith, of.is_page, high))) ∙ of.there)
+  ])
+
+  pub is_next_part : (first end next : ℕ) (span : Span) (count : ℕ) → get (marks spans) first ≡ None → IsFirstFrom spans first end next span → 0 < count → count ≤ span.count → next + count ≤ end →
+      IsPart (marks spans) first end (record { first = next; count = count; mark = span.mark })
+  is_next_part first end next span count none at some few within = record {
+    from = at.from;
+    some = some;
+    within = within;
+    none_before = none_between first next none at.least;
+    there = λ i below. run_has next span at.there i (omega (arith, below, few));
+  }
+
+  pub no_part : (first end : ℕ) → get (marks spans) first ≡ None → ((q : ℕ) → first ≤ q → q < end → span_at spans q ≡ None) → HasNone (marks spans) first end
+  no_part first end none least = none_between first end none least
+
+pub is_first_part : (m : Marks) (first end : ℕ) (rest : Span) (count : ℕ) → IsRest m first rest → 0 < count → count ≤ rest.count → first + count ≤ end →
+    IsPart m first end (record { first = first; count = count; mark = rest.mark })
+is_first_part m first end rest count at some few within = record {
+  from = omega arith;
+  some = some;
+  within = within;
+  none_before = λ page low high. absurd (omega (arith, low, high));
+  there = λ i below. at.there i (omega (arith, below, few));
+}
+
+-- runs with the same entries
+pub runs_along : (m n : Spans) → n.entries ≡ m.entries → AreRuns m → AreRuns n
+runs_along m n same runs = record {
+  ordered = subst (λ es. IsStrictlySortedBy nat_cmp (keys_of es)) (sym same) runs.ordered;
+  whole = λ q s is. runs.whole q s (back q s is);
+  apart = λ q p s t a b. runs.apart q p s t (back q s a) (back p t b);
+}
+  where
+    back : (q : ℕ) (s : Span) → span_at n q ≡ Some s → span_at m q ≡ Some s
+    back q s is = ap (lookup (is_at (nat_cmp q))) (sym same) ∙ is

@@ -1,0 +1,26 @@
+-- What stands at a page of a mapping, and what goes on from it.
+--     goes_on      the mark that goes on from another so many pages further
+--     with_perm      the same page with other permissions
+--     index_of      the number of the file's page, 0 for zeros
+use Rattle.std.specs.Prelude.{ℕ, ◌+◌}
+use Rattle.corten_base.specs.declared.permissions.Perm.{Perm}
+use Rattle.corten_base.specs.declared.calls.Backing.{Backing}
+use Rattle.corten_base.specs.declared.calls.Backing.TheVariants.{Zero, File}
+use Rattle.page_runs.specs.declared.mark.Mark.{Mark}
+
+abbrev pub index_of : Backing → ℕ
+index_of Zero = 0
+index_of (File file index) = index
+
+-- zeros after zeros, and after a file's page the file's page so many pages further
+abbrev pub backing_after : Backing → ℕ → Backing
+backing_after Zero i = Zero
+backing_after (File file index) i = File file (index + i)
+
+-- the mark i pages further in one run: the same permissions, and a file's later page
+abbrev pub goes_on : Mark → ℕ → Mark
+goes_on mark i = record { perm = mark.perm; backing = backing_after mark.backing i }
+
+-- the same page with other permissions (POSIX.1 mprotect)
+abbrev pub with_perm : Perm → Mark → Mark
+with_perm new mark = record { perm = new; backing = mark.backing }

@@ -1,0 +1,24 @@
+-- What the runs of a space tell of its pages.
+--     IsPart      a run's part in a range: the first pages of the range that have marks, which go on from one another
+--     HasNone      no page of a range has a mark
+--     is_vacant      whether none has
+use Rattle.std.specs.Prelude.{◌≡◌, ℕ, ◌+◌, ◌<◌, ◌≤◌, Bool, is_some, is_none, Some, None}
+use Rattle.std.specs.FinMap.{get}
+use Rattle.page_map.specs.Change.{least}
+use Rattle.page_runs.specs.declared.runs.Run.{Run}
+use Rattle.page_runs.specs.Mark.{goes_on}
+use Rattle.page_runs.specs.Spans.{Marks}
+
+abbrev pub HasNone : Marks → ℕ → ℕ → Type 0
+HasNone m first end = (page : ℕ) → first ≤ page → page < end → get m page ≡ None
+
+pub record IsPart (m : Marks) (first end : ℕ) (run : Run) : Type 0 where
+  pub from : first ≤ run.first
+  pub some : 0 < run.count
+  pub within : run.first + run.count ≤ end
+  pub none_before : HasNone m first run.first
+  pub there : (i : ℕ) → i < run.count → get m (run.first + i) ≡ Some (goes_on run.mark i)
+
+-- whether no page of so many has a mark
+abbrev pub is_vacant : Marks → ℕ → ℕ → Bool
+is_vacant m first count = is_none (least first count (λ page. is_some (get m page)))

@@ -1,0 +1,86 @@
+-- Runs of pages by their first pages.
+--     span_at      the run that starts at a page
+--     marks      what the runs say of each page
+--     AreRuns      runs that have pages, and none in common
+--     IsEdge      no run goes on across a page's beginning
+--     IsLastUpTo, IsFirstFrom      the last run that starts up to a page;  the first that starts in a range
+--     IsRest      what is left of a run from a page on
+--     painted      a run with other permissions
+--     Sets, Changes      one run is set;  the runs that start in a range change
+use Rattle.std.specs.Prelude.{◌≡◌, ℕ, ◌+◌, ◌-◌, ◌^◌, ◌<◌, ◌≤◌, ◌≢◌, List, [], ◌∷◌, Option, Some, None}
+use Rattle.std.specs.Ordering.{nat_cmp}
+use Rattle.std.specs.BTreeMap.{BTreeMap, IsOrdered}
+use Rattle.std.specs.BTreeMap as tree
+use Rattle.std.specs.FinMap.{FinMap, empty, get}
+use Rattle.page_map.specs.Change.{change}
+use Rattle.page_runs.specs.declared.mark.Mark.{Mark}
+use Rattle.page_runs.specs.declared.spans.Span.{Span}
+use Rattle.page_runs.specs.Mark.{goes_on, index_of, with_perm}
+use Rattle.corten_base.specs.declared.permissions.Perm.{Perm}
+
+abbrev pub Spans : Type 0
+Spans = BTreeMap ℕ Span
+
+abbrev pub Marks : Type 0
+Marks = FinMap nat_cmp Mark
+
+abbrev pub span_at : Spans → ℕ → Option Span
+span_at spans first = tree.get nat_cmp spans first
+
+-- each page of a run has the mark that goes on from the run's first one
+unfoldable pub marks_of : List (ℕ × Span) → Marks
+marks_of [] = empty
+marks_of (e ∷ es) = change (marks_of es) e.0 e.1.count (λ page _. Some (goes_on e.1.mark (page - e.0)))
+
+abbrev pub marks : Spans → Marks
+marks spans = marks_of spans.entries
+
+-- a run has a page, and its pages and their indexes in its file are numbers of 64 bits
+pub record IsRun (first : ℕ) (span : Span) : Type 0 where
+  pub some : 0 < span.count
+  pub pages : first + span.count < 2 ^ 64
+  pub indexes : index_of span.mark.backing + span.count < 2 ^ 64
+
+-- no page is in two of them
+pub record AreRuns (spans : Spans) : Type 0 where
+  pub ordered : IsOrdered nat_cmp spans
+  pub whole : (first : ℕ) (span : Span) → span_at spans first ≡ Some span → IsRun first span
+  pub apart : (first later : ℕ) (span next : Span) → span_at spans first ≡ Some span → span_at spans later ≡ Some next → first < later → first + span.count ≤ later
+
+-- each run that starts before the page ends before it
+abbrev pub IsEdge : ℕ → Spans → Type 0
+IsEdge page spans = (first : ℕ) (span : Span) → span_at spans first ≡ Some span → first < page → first + span.count ≤ page
+
+pub record IsLastUpTo (spans : Spans) (page first : ℕ) (span : Span) : Type 0 where
+  pub near : first ≤ page
+  pub there : span_at spans first ≡ Some span
+  pub last : (q : ℕ) → first < q → q ≤ page → span_at spans q ≡ None
+
+-- from the page on so many pages go on from one another
+pub record IsRest (m : Marks) (page : ℕ) (rest : Span) : Type 0 where
+  pub some : 0 < rest.count
+  pub here : get m page ≡ Some rest.mark
+  pub there : (i : ℕ) → i < rest.count → get m (page + i) ≡ Some (goes_on rest.mark i)
+
+pub record IsFirstFrom (spans : Spans) (low end first : ℕ) (span : Span) : Type 0 where
+  pub from : low ≤ first
+  pub before : first < end
+  pub there : span_at spans first ≡ Some span
+  pub least : (q : ℕ) → low ≤ q → q < first → span_at spans q ≡ None
+
+-- what starts at one page is set, and each other page keeps what starts there
+pub record Sets (old new : Spans) (first : ℕ) (span : Option Span) : Type 0 where
+  pub ordered : IsOrdered nat_cmp new
+  pub here : span_at new first ≡ span
+  pub others : (q : ℕ) → q ≢ first → span_at new q ≡ span_at old q
+
+-- a run with other permissions
+abbrev pub painted : Perm → Span → Span
+painted perm span = record { count = span.count; mark = with_perm perm span.mark }
+
+-- what starts in a range changes by a function, and all else stays
+pub record Changes (f : Option Span → Option Span) (first end : ℕ) (old new : Spans) : Type 0 where
+  pub ordered : IsOrdered nat_cmp new
+  pub below : (q : ℕ) → q < first → span_at new q ≡ span_at old q
+  pub changed : (q : ℕ) → first ≤ q → q < end → span_at new q ≡ f (span_at old q)
+  pub above : (q : ℕ) → end ≤ q → span_at new q ≡ span_at old q

@@ -1,0 +1,185 @@
+//! What stands at each page of a space.
+ghost use Rattle.std.specs.Prelude.{◌≡◌, ℕ, ◌+◌, ◌-◌, ◌^◌, ◌<◌, ◌≤◌, Some, None, IfOk, IfSome, IfNone, OnOk, OnErr, is_some, is_none};
+ghost use Rattle.std.specs.Option.{option_map};
+ghost use Rattle.std.specs.FinMap as map;
+ghost use Rattle.page_map.specs.Change.{change, least};
+ghost use Rattle.page_runs.specs.Mark.{goes_on, index_of, with_perm};
+ghost use Rattle.page_runs.specs.Runs.{IsPart, HasNone, is_vacant};
+
+use crate::mark::Mark;
+use crate::ranges;
+use crate::spans::{Span, Spans, first_in, rest_at};
+use corten_base::Perm;
+use std::alloc::{AllocError, Global};
+use std::collections::BTreeMap;
+use std::marker::Model;
+
+/// Pages that go on from one another.
+#[derive(Clone, Copy, PartialEq, Eq, Debug)]
+pub struct Run {
+    /// The first page.
+    pub first: u64,
+    /// How many pages there are.
+    pub count: u64,
+    /// What stands at the first page.
+    pub mark: Mark,
+}
+
+/// What stands at each page of a space, where something does.
+#[derive(Drop)]
+pub struct PageRuns {
+    spans: Spans,
+}
+
+impl Model for PageRuns {
+    ghost use Rattle.std.specs.Ordering.{nat_cmp};
+    ghost use Rattle.std.specs.FinMap as map;
+    ghost use Rattle.std.specs.Coded.{coded_ℕ};
+    ghost use Rattle.page_runs.specs.declared.mark.Mark.{Mark};
+    ghost use Rattle.page_runs.specs.contracts.mark.Mark as mark;
+
+    ghost Value = { map.FinMap nat_cmp Mark };
+
+    ghost coded = { map.code coded_ℕ mark.the_row.coded };
+
+    ghost use Rattle.page_runs.specs.Spans.{marks, AreRuns};
+
+    ghost view = { λ a. marks a.spans };
+
+    ghost invariant = { λ a. AreRuns a.spans };
+}
+
+impl PageRuns {
+    /// No marks.
+    pub fn new(alloc: Global) -> Self
+        ensures { result ≡ map.empty }
+    {
+        Self {
+            spans: BTreeMap::new(alloc),
+        }
+    }
+
+    /// What stands at a page.
+    pub fn get(&self, page: u64) -> Option<Mark>
+        ensures { result ≡ map.get self.now page }
+    {
+        match rest_at(&self.spans, page) {
+            Some(rest) => Some(rest.mark),
+            None => None,
+        }
+    }
+
+    /// The first pages of a range that have marks, as far as they go on from one another in one run.
+    pub fn part(&self, first: u64, end: u64) -> Option<Run>
+        requires { first ≤ end }
+        ensures some { IfSome result (IsPart self.now first end) }
+        ensures none { IfNone result (HasNone self.now first end) }
+    {
+        if end <= first {
+            return None;
+        }
+        if let Some(rest) = rest_at(&self.spans, first) {
+            return Some(Run {
+                first,
+                count: rest.count.min(end - first),
+                mark: rest.mark,
+            });
+        }
+        let Some((start, span)) = first_in(&self.spans, first, end) else {
+            return None;
+        };
+        Some(Run {
+            first: start,
+            count: span.count.min(end - start),
+            mark: span.mark,
+        })
+    }
+
+    /// The least page of a range that has a mark.
+    pub fn next(&self, first: u64, end: u64) -> Option<u64>
+        requires { first ≤ end }
+        ensures { result ≡ least first (end - first) (λ page. is_some (map.get self.now page)) }
+    {
+        match self.part(first, end) {
+            Some(run) => Some(run.first),
+            None => None,
+        }
+    }
+
+    /// The least page of a range that has no mark.
+    pub fn hole(&self, first: u64, end: u64) -> Option<u64>
+        requires { first ≤ end }
+        ensures { result ≡ least first (end - first) (λ page. is_none (map.get self.now page)) }
+    {
+        let mut next = first;
+        while let Some(run) = self.part(next, end) {
+            if next < run.first {
+                return Some(next);
+            }
+            next = run.first + run.count;
+        }
+        if next < end { Some(next) } else { None }
+    }
+
+    /// The least page of a range from which on so many pages of the range have no mark.
+    pub fn gap(&self, first: u64, end: u64, count: u64) -> Option<u64>
+        requires range { first ≤ end }
+        requires some { 0 < count }
+        ensures { result ≡ least first (end + 1 - (first + count)) (λ start. is_vacant self.now start count) }
+    {
+        let mut start = first;
+        while let Some(run) = self.part(start, end) {
+            if run.first - start >= count {
+                return Some(start);
+            }
+            start = run.first + run.count;
+        }
+        if end - start >= count {
+            Some(start)
+        } else {
+            None
+        }
+    }
+
+    /// Puts marks that go on from one another in the place of what was there.
+    pub fn replace(&mut self, run: Run) -> Result<(), AllocError>
+        requires some { 0 < run.count }
+        requires pages { run.first + run.count < 2 ^ 64 }
+        requires indexes { index_of run.mark.backing + run.count < 2 ^ 64 }
+        ensures ok { OnOk result (self.new ≡ change self.old run.first run.count (λ page _. Some (goes_on run.mark (page - run.first)))) }
+        ensures err { OnErr result (self.new ≡ self.old) }
+    {
+        let span = Span {
+            count: run.count,
+            mark: run.mark,
+        };
+        ranges::replace(&mut self.spans, run.first, span)
+    }
+
+    /// Takes the marks of a range out.
+    pub fn remove(&mut self, first: u64, count: u64) -> Result<(), AllocError>
+        requires { first + count < 2 ^ 64 }
+        ensures ok { OnOk result (self.new ≡ change self.old first count (λ _ _. None)) }
+        ensures err { OnErr result (self.new ≡ self.old) }
+    {
+        ranges::remove(&mut self.spans, first, count)
+    }
+
+    /// Gives the marks of a range other permissions.
+    pub fn protect(&mut self, first: u64, count: u64, perm: Perm) -> Result<(), AllocError>
+        requires { first + count < 2 ^ 64 }
+        ensures ok { OnOk result (self.new ≡ change self.old first count (λ _. option_map (with_perm perm))) }
+        ensures err { OnErr result (self.new ≡ self.old) }
+    {
+        ranges::protect(&mut self.spans, first, count, perm)
+    }
+
+    /// The same marks once more.
+    pub fn copy(&self) -> Result<PageRuns, AllocError>
+        ensures { IfOk result (λ copy. copy ≡ self.now) }
+    {
+        Ok(PageRuns {
+            spans: self.spans.clone()?,
+        })
+    }
+}
