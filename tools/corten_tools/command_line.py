@@ -23,6 +23,10 @@ def read_text(path):
         raise Fault(f"{path}: {error.strerror}") from None
 
 
+def shown_path(path):
+    return "standard input" if path == "-" else path
+
+
 def take_options(words, names):
     """Splits words into options `--name VALUE` and the rest."""
     options, rest = {}, []

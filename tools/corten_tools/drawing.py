@@ -7,6 +7,8 @@ from .bands import Band, address, size_of
 
 LEFT, WIDTH, RIGHT = 100, 900, 100
 CURVE = 56
+# Below this height the edges would hide what they enclose; nothing is drawn smaller than so that it is seen.
+THIN, LEAST = 2.5, 0.5
 # The greatest height of a band: less where many stand below each other.
 ALL_BANDS, LOWEST, HIGHEST = 2400, 64, 420
 MOST_TITLES = 2500
@@ -27,6 +29,9 @@ class Picture:
         self.parts = []
         self.y = 0
         self.columns = max(1, film.calls)
+        self.refused = defaultdict(list)
+        for refusal in film.refusals:
+            self.refused[id(refusal.life)].append(refusal)
         self.used = sorted({(piece.cell.kind, piece.cell.perm) for life in film.lives for piece in life.pieces})
 
     def x(self, place):
@@ -49,7 +54,7 @@ class Picture:
         patterns = "".join(svg.pattern(kind, perm) for kind, perm in self.used)
         return "\n".join([
             f'<svg xmlns="http://www.w3.org/2000/svg" width="{width}" height="{svg.number(height)}" '
-            f'viewBox="0 0 {width} {svg.number(height)}">',
+            f'viewBox="0 0 {width} {svg.number(height)}" role="img" aria-label="{svg.escape(self.name)}">',
             f"<style>{STYLE}</style><defs>{patterns}</defs>",
             svg.rect(0, 0, width, height, 'fill="#fff"'), *self.parts, "</svg>", ""])
 
@@ -59,14 +64,14 @@ class Picture:
         film = self.film
         self.add(svg.text(10, 20, self.name, TITLE))
         spaces = f"{len(film.lives)} address spaces" if len(film.lives) > 1 else "one address space"
-        told = f"{film.calls} answered calls, {len(film.refusals)} refused, {spaces}; addresses grow upwards, calls go to the right"
-        self.add(svg.text(10, 36, told))
+        told = f"{film.calls} answered calls, {len(film.refusals)} refused, {spaces}"
+        self.add(svg.text(10, 36, f"{told}; addresses grow upwards, calls go to the right"))
         self.y = 46
         x = 10
         for kind, perm in self.used:
             if x > LEFT + WIDTH - 60:
                 x, self.y = 10, self.y + 18
-            self.add(svg.rect(x, self.y, 26, 12, f'fill="url(#{svg.pattern_name(kind, perm)})" stroke="{svg.INK[kind]}" stroke-width=".6"'))
+            self.add(svg.rect(x, self.y, 26, 12, self.look(kind, perm)))
             self.add(svg.text(x + 31, self.y + 10, f"{KIND_NAMES[kind]} {perm}"))
             x += 145
         if film.refusals:
@@ -98,7 +103,8 @@ class Picture:
         self.add(svg.rect(left, top, max(right - left, 1), band.height, 'fill="#f2f2f2"'))
         for low, high, _ in band.folds():
             middle = svg.number(bottom - (low + high) / 2)
-            self.add(svg.path(f"M{svg.number(left)} {middle}H{svg.number(right)}", 'stroke="#999" stroke-dasharray="2 4"'))
+            line = f"M{svg.number(left)} {middle}H{svg.number(right)}"
+            self.add(svg.path(line, 'stroke="#999" stroke-dasharray="2 4"'))
         self.pieces(life, band, bottom, titles)
         self.refusals(life, band, bottom)
 
@@ -111,18 +117,20 @@ class Picture:
         together = defaultdict(list)
         for piece in sorted(life.pieces, key=lambda piece: (piece.since, piece.first)):
             low, high = band.above(piece.first), band.above(piece.end)
-            data = svg.box(self.x(piece.since), bottom - high, self.x(piece.until) - self.x(piece.since), high - low)
-            look = (piece.cell.kind, piece.cell.perm)
+            left, right = self.x(piece.since), self.x(piece.until)
+            data = svg.box(left, bottom - high, max(right - left, LEAST), max(high - low, LEAST))
+            look = self.look(piece.cell.kind, piece.cell.perm, high - low >= THIN)
             if titles:
-                self.add(svg.path(data, self.look(*look), told_piece(piece)))
+                self.add(svg.path(data, look, told_piece(piece)))
             else:
                 together[look].append(data)
         for look, data in together.items():
-            self.add(svg.path("".join(data), self.look(*look)))
+            self.add(svg.path("".join(data), look))
 
     @staticmethod
-    def look(kind, perm):
-        return f'fill="url(#{svg.pattern_name(kind, perm)})" stroke="{svg.INK[kind]}" stroke-width=".3"'
+    def look(kind, perm, edged=True):
+        edge = f' stroke="{svg.INK[kind]}" stroke-width=".3"' if edged else ""
+        return f'fill="url(#{svg.pattern_name(kind, perm)})"{edge}'
 
     def labels(self, life, band, bottom):
         free = bottom + 10
@@ -134,19 +142,17 @@ class Picture:
 
     def refusals(self, life, band, bottom):
         places = defaultdict(list)
-        for refusal in self.film.refusals:
-            if refusal.life is life:
-                y = bottom - (band.above(refusal.page) if refusal.page is not None else 0)
-                y = round(max(bottom - band.height + 4, min(bottom - 4, y)))
-                places[round(self.x(refusal.place + 0.5)), y].append(refusal)
+        for refusal in self.refused[id(life)]:
+            y = bottom - (band.above(refusal.page) if refusal.page is not None else 0)
+            y = round(max(bottom - band.height + 4, min(bottom - 4, y)))
+            places[round(self.x(refusal.place + 0.5)), y].append(refusal)
         self.crosses(places)
 
     def homeless(self):
         """Refused calls whose space is absent, or that name none."""
         places = defaultdict(list)
-        for refusal in self.film.refusals:
-            if refusal.life is None:
-                places[round(self.x(refusal.place + 0.5)), round(self.y + 24)].append(refusal)
+        for refusal in self.refused[id(None)]:
+            places[round(self.x(refusal.place + 0.5)), round(self.y + 24)].append(refusal)
         if places:
             self.add(svg.text(10, self.y + 12, "refused calls of no space that is there", BOLD))
             self.add(svg.rect(LEFT, self.y + 16, WIDTH, 16, 'fill="#f2f2f2"'))
@@ -186,7 +192,8 @@ class Picture:
             if value != last:
                 data += f"H{svg.number(self.x(place))}V{svg.number(bottom - CURVE * value / max(1, most))}"
                 last = value
-        self.add(svg.path(data + f"H{LEFT + WIDTH}V{svg.number(bottom)}z", f'fill="{colour}" fill-opacity=".35" stroke="{colour}"'))
+        data += f"H{LEFT + WIDTH}V{svg.number(bottom)}z"
+        self.add(svg.path(data, f'fill="{colour}" fill-opacity=".35" stroke="{colour}"'))
         self.y = bottom + 4
 
     def axis(self):
@@ -208,7 +215,8 @@ class Picture:
     def accounts(self):
         """The replay counts what is in use; the history's last lines say it too."""
         for name, mine, theirs in differing_accounts(self.history, self.film):
-            self.add(svg.text(10, self.y + 2, f"{name}: {theirs} at the end by the history's accounts, {mine} by this picture"))
+            told = f"{name}: {theirs} at the end by the history's accounts, {mine} by this picture"
+            self.add(svg.text(10, self.y + 2, told))
             self.y += 16
 
 
@@ -254,8 +262,8 @@ def told_piece(piece):
 def differing_accounts(history, film):
     end = film.replay.map
     frames, swap, tables = history.accounts
-    counted = (("frames in use", film.frames[-1] if film.frames else 0, frames[0] - frames[1]),
-               ("swap slots in use", film.slots[-1] if film.slots else 0, swap[2]),
+    counted = (("frames in use", film.frames[-1], frames[0] - frames[1]),
+               ("swap slots in use", film.slots[-1], swap[2]),
                ("page tables", end.tables_linked(), tables[1]))
     return [(name, mine, theirs) for name, mine, theirs in counted if mine != theirs]
 

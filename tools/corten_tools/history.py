@@ -3,7 +3,7 @@
 import re
 from collections import namedtuple
 
-from .command_line import Fault, read_text
+from .command_line import Fault, read_text, shown_path
 from .page_map import PAGE, PageMap, fresh, pages_of
 
 # One answered call: its line in the text, the thread, the words of the call, those of the reply.
@@ -28,7 +28,8 @@ REPLIES = "|".join((
     rf"notables {NUMBER} {NUMBER} {NUMBER}", rf"(?:noframes|noswap) {NUMBER} {NUMBER}",
 ))
 ENTRY = re.compile(rf"([0-7]) ({CALLS}) = ({REPLIES})")
-ACCOUNTS = (r"frames (\d+) free (\d+) mapped (\d+)", r"swap (\d+) free (\d+) used (\d+)", r"tables (\d+) linked (\d+) limbo (\d+)")
+ACCOUNTS = (r"frames (\d+) free (\d+) mapped (\d+)", r"swap (\d+) free (\d+) used (\d+)",
+            r"tables (\d+) linked (\d+) limbo (\d+)")
 
 
 def expect(path, lines, place, pattern, wanted):
@@ -38,7 +39,12 @@ def expect(path, lines, place, pattern, wanted):
     if match:
         return match
     found = "the end" if line is None else f"'{line if len(line) <= 60 else line[:57] + '...'}'"
-    raise Fault(f"{path}:{place + 1}: expected {wanted}, found {found}")
+    raise Fault(f"{shown_path(path)}:{place + 1}: expected {wanted}, found {found}")
+
+
+def read_account(path, lines, place, pattern):
+    match = expect(path, lines, place, pattern, "'" + pattern.replace(r"(\d+)", "N") + "'")
+    return tuple(map(int, match.groups()))
 
 
 def read_history(path):
@@ -62,10 +68,9 @@ def read_history(path):
         match = expect(path, lines, place, ENTRY, "'THREAD CALL = REPLY' or the accounts, 'frames N free N mapped N'")
         entries.append(Entry(place + 1, int(match.group(1)), match.group(2), match.group(3)))
         place += 1
-    accounts = [tuple(map(int, expect(path, lines, place + at, pattern, f"'{pattern}'".replace("(\\d+)", "N")).groups()))
-                for at, pattern in enumerate(ACCOUNTS)]
+    accounts = [read_account(path, lines, place + at, pattern) for at, pattern in enumerate(ACCOUNTS)]
     if place + 3 < len(lines):
-        raise Fault(f"{path}:{place + 4}: expected the end, found '{lines[place + 3][:60]}'")
+        raise Fault(f"{shown_path(path)}:{place + 4}: expected the end, found '{lines[place + 3][:60]}'")
     return History(limits, files, entries, accounts)
 
 

@@ -2,6 +2,7 @@
 
 from collections import namedtuple
 
+from .command_line import Fault, shown_path
 from .history import Replay, is_done, space_of
 from .page_map import PAGE
 from .ranges import Ranges
@@ -62,7 +63,7 @@ class Life(Ranges):
 class Film:
     """All lives of a history's spaces, its refusals, and what was in use after each call."""
 
-    def __init__(self, history):
+    def __init__(self, history, path):
         self.now = 0
         self.lives = []
         self.refusals = []
@@ -74,7 +75,13 @@ class Film:
         self.replay = Replay(history, lambda: Life(self))
         self.name_lives()
         for place, entry in enumerate(history.entries):
-            self.show(place, entry)
+            try:
+                self.show(place, entry)
+            except (KeyError, AttributeError, IndexError, ValueError):
+                raise Fault(f"{shown_path(path)}:{entry.line}: expected a reply that fits the calls before it, as "
+                            f"'cortenmm check' does, found '{entry.reply[:60]}'") from None
+        if not history.entries:
+            self.count()
         self.now = max(1, self.calls)
         for space in self.replay.map.spaces.values():
             space.ranges.close()
@@ -93,6 +100,9 @@ class Film:
         self.replay.apply(entry)
         if entry.call.startswith(("fork", "spawn")):
             self.name_lives()
+        self.count()
+
+    def count(self):
         self.frames.append(self.replay.map.frames_used())
         self.tables.append(self.replay.map.tables_linked())
         self.slots.append(self.replay.map.slots_used())

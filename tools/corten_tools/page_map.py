@@ -4,19 +4,27 @@ It counts frames, swap slots and page tables and does not number them. Page tabl
 maps adds the missing ones above its pages, `unmap` removes those whose span lies in its range.
 """
 
-from collections import Counter, namedtuple
+from collections import Counter, defaultdict, namedtuple
 
 from .ranges import Ranges
 
 PAGE = 4096
 SPACES = 64
 
-# `kind` is anon, file, frame or swapped. A file's page has the index `base` plus its number; `base` and `file` are None else.
+# `kind` is anon, file, frame or swapped. A file's page has the index `base` plus its number; else `file` and `base` are
+# None.
 Cell = namedtuple("Cell", "kind perm file base")
 
 
 def pages_of(length):
     return (length + PAGE - 1) // PAGE
+
+
+def within(numbers, low, high):
+    """Those of a set's or a map's numbers that lie in `low..high`, at the cost of the smaller of the two."""
+    if high - low < len(numbers):
+        return [number for number in range(low, high) if number in numbers]
+    return [number for number in numbers if low <= number < high]
 
 
 def fresh(perm, file=None, base=None):
@@ -30,7 +38,7 @@ class Space:
         self.ranges = ranges
         self.frames = {}
         self.slots = {}
-        self.tables = set()
+        self.tables = defaultdict(set)  # the prefixes of each level below the root
 
 
 class PageMap:
@@ -52,27 +60,32 @@ class PageMap:
         return len(self.slot_owners)
 
     def tables_linked(self):
-        return sum(1 + len(space.tables) for space in self.spaces.values())
+        return sum(1 + sum(map(len, space.tables.values())) for space in self.spaces.values())
 
     def least_absent(self):
         """The number of the next space, or None where all are present."""
         return next((number for number in range(SPACES) if number not in self.spaces), None)
 
-    def spawn(self):
+    def _absent(self):
         number = self.least_absent()
+        if number is None:
+            raise KeyError("no space is absent")
+        return number
+
+    def spawn(self):
+        number = self._absent()
         self.spaces[number] = Space(self.make())
         return number
 
     def fork(self, number):
         old = self.spaces[number]
-        child = self.least_absent()
+        child = self._absent()
         new = self.spaces[child] = Space(old.ranges.copy())
         new.frames = dict(old.frames)
         new.slots = dict(old.slots)
         self.frame_owners.update(new.frames.values())
         self.slot_owners.update(new.slots.values())
-        for first, end, _ in new.ranges:
-            self.add_tables(child, first, end)
+        new.tables = self.tables_of_fork(number)
         return child
 
     def exit(self, number):
@@ -90,7 +103,7 @@ class PageMap:
 
     def _drop_numbers(self, space, first, end):
         for numbers in (space.frames, space.slots):
-            for page in [page for page in numbers if first <= page < end]:
+            for page in within(numbers, first, end):
                 self._drop_number(space, page)
 
     def _give_number(self, owners, numbers, page):
@@ -108,7 +121,9 @@ class PageMap:
         self._drop_numbers(space, first, end)
         space.ranges.put(first, end, None)
         if tables:
-            space.tables = {at for at in space.tables if not self._lies_in(at, first, end)}
+            for level in range(1, self.levels):
+                span = self._span(level)
+                space.tables[level] -= set(within(space.tables[level], -(-first // span), end // span))
 
     def protect(self, number, first, end, perm):
         ranges = self.spaces[number].ranges
@@ -133,14 +148,12 @@ class PageMap:
 
     def swap_out(self, number, first, end):
         space = self.spaces[number]
-        sole = [page for page, frame in space.frames.items()
-                if first <= page < end and self.frame_owners[frame] == 1]
+        sole = [page for page in within(space.frames, first, end) if self.frame_owners[space.frames[page]] == 1]
         self._move(space, sole, self.slot_owners, space.slots, "swapped")
 
     def swap_in(self, number, first, end):
         space = self.spaces[number]
-        out = [page for page in space.slots if first <= page < end]
-        self._move(space, out, self.frame_owners, space.frames, "frame")
+        self._move(space, within(space.slots, first, end), self.frame_owners, space.frames, "frame")
 
     def _move(self, space, pages, owners, numbers, kind):
         for page in sorted(pages):
@@ -153,7 +166,7 @@ class PageMap:
         """Moves what stands in a range, numbers included, to the range `by` pages further."""
         space = self.spaces[number]
         parts = space.ranges.parts(first, end)
-        taken = [{page + by: numbers.pop(page) for page in list(numbers) if first <= page < end}
+        taken = [{page + by: numbers.pop(page) for page in within(numbers, first, end)}
                  for numbers in (space.frames, space.slots)]
         space.ranges.put(first, end, None)
         for start, stop, cell in parts:
@@ -167,22 +180,24 @@ class PageMap:
     def _span(level):
         return 1 << (9 * level)
 
-    def _lies_in(self, table, first, end):
-        level, prefix = table
-        span = self._span(level)
-        return first <= prefix * span and (prefix + 1) * span <= end
-
     def missing_tables(self, number, first, end):
         """How many tables below the root are missing above `first..end`."""
         missing = 0
         for level in range(1, self.levels):
-            low, high = first // self._span(level), (end - 1) // self._span(level)
-            there = sum(1 for at, prefix in self.spaces[number].tables if at == level and low <= prefix <= high)
-            missing += high - low + 1 - there
+            low, high = first // self._span(level), (end - 1) // self._span(level) + 1
+            missing += high - low - len(within(self.spaces[number].tables[level], low, high))
         return missing
 
+    def tables_of_fork(self, number):
+        """The tables below the root that a copy of the space gets."""
+        tables = defaultdict(set)
+        for first, end, _ in self.spaces[number].ranges:
+            self._put_tables(tables, first, end)
+        return tables
+
     def add_tables(self, number, first, end):
-        tables = self.spaces[number].tables
+        self._put_tables(self.spaces[number].tables, first, end)
+
+    def _put_tables(self, tables, first, end):
         for level in range(1, self.levels):
-            low, high = first // self._span(level), (end - 1) // self._span(level)
-            tables.update((level, prefix) for prefix in range(low, high + 1))
+            tables[level].update(range(first // self._span(level), (end - 1) // self._span(level) + 1))

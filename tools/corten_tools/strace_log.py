@@ -4,7 +4,7 @@ import re
 from bisect import bisect_left
 from collections import namedtuple
 
-from .command_line import Fault, read_text
+from .command_line import Fault, read_text, shown_path
 
 # A call that returned. `result` is its number and `error` the name of the error, or None.
 Call = namedtuple("Call", "pid name args result error log line")
@@ -14,14 +14,16 @@ End = namedtuple("End", "pid log line")
 FORKS = ("clone", "clone3", "fork", "vfork")
 WANTED = "expected 'PID CALL(ARGUMENTS) = RESULT' as strace -f writes it"
 
-PREFIX = re.compile(r"(?:\[pid +(\d+)(?:<[^>]*>)?\] +|(\d+)(?:<[^>]*>)? +)?(?:\d\d:\d\d:\d\d(?:\.\d+)? +| *\d+\.\d+ +)?(?=\S)")
+# A process number, and a time of each of strace's forms.
+PREFIX = re.compile(r"(?:\[pid +(\d+)(?:<[^>]*>)?\] +|(\d+)(?:<[^>]*>)? +)?"
+                    r"(?:\d\d:\d\d:\d\d(?:\.\d+)? +| *\d+\.\d+ +)?(?=\S)")
 RESUMED = re.compile(r"<\.\.\. (\w+) resumed>(.*)", re.S)
 OPENED = re.compile(r"(\w+)\((.*)", re.S)
 ENDED = re.compile(r"\+\+\+ (?:exited with|killed by) .*\+\+\+$")
 SUPERSEDED = re.compile(r"\+\+\+ superseded by execve in pid (\d+) \+\+\+$")
 SKIPPED = re.compile(r"--- .* ---$|strace: Process \d+ (?:at|de)tached|\[ Process PID=\d+ runs in .* mode. \]$")
 RESULT = re.compile(r"\s*= (-?\d+|0x[0-9a-f]+|\?)(?:<[^>]*>)?(?: (E[A-Z0-9]+))?(?= |$)")
-PIECE = re.compile(r'"(?:\\.|[^"\\])*"|<[^<>\s][^<>]*>|/\*.*?\*/|.', re.S)
+PIECE = re.compile(r'"(?:\\.|[^"\\])*"|<[^<>\s][^<>]*>|/\*.*?\*/|[^"<>/\[\](){},]+|.', re.S)
 
 
 class Opened(namedtuple("Opened", "name text place line")):
@@ -50,7 +52,7 @@ class LogReader:
     """Reads one log. `events` has (place, event) pairs, a place in the order of the effects."""
 
     def __init__(self, path, order):
-        self.path = path
+        self.path = shown_path(path)
         self.order = order
         self.number = 0
         self.opened = {}

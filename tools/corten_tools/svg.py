@@ -20,7 +20,8 @@ def number(value):
 
 def rect(x, y, width, height, attributes="", title=""):
     inside = f"><title>{escape(title)}</title></rect>" if title else "/>"
-    return f'<rect x="{number(x)}" y="{number(y)}" width="{number(width)}" height="{number(height)}" {attributes}{inside}'
+    place = f'x="{number(x)}" y="{number(y)}" width="{number(width)}" height="{number(height)}"'
+    return f"<rect {place} {attributes}{inside}"
 
 
 def text(x, y, content, attributes=""):
@@ -43,7 +44,7 @@ def pattern_name(kind, perm):
 
 def pattern(kind, perm):
     """The fill of pages of a kind with these permissions."""
-    ground = "#ffffff" if perm == "---" else COLOURS[kind]
-    stroke = INK[kind]
+    ground = rect(0, 0, 6, 6, f'fill="{"#ffffff" if perm == "---" else COLOURS[kind]}"')
+    lines = path(STROKES[perm], f'stroke="{INK[kind]}"') if STROKES[perm] else ""
     return (f'<pattern id="{pattern_name(kind, perm)}" width="6" height="6" patternUnits="userSpaceOnUse">'
-            f'<rect width="6" height="6" fill="{ground}"/><path d="{STROKES[perm]}" stroke="{stroke}" stroke-width="1" fill="none"/></pattern>')
+            f"{ground}{lines}</pattern>")

@@ -1,9 +1,10 @@
 """Turns the calls of a log into calls of a script."""
 
+import re
 from collections import Counter, namedtuple
 
 from .files import Shelf
-from .page_map import PAGE, PageMap, fresh, pages_of
+from .page_map import PAGE, SPACES, PageMap, fresh, pages_of
 from .ranges import Ranges
 from .strace_log import FORKS, Call, End
 
@@ -11,13 +12,13 @@ FRAMES = 4096
 TABLES = 1023
 SWAP = 4096
 
-# A line of the script. A call has what the kernel replied (`expect`), or was added by the tool for a log line, or touches a page.
+# A line of the script. Of a call `expect` is what the kernel replied, of a comment None. A call may be added by this tool,
+# also to touch a page.
 Item = namedtuple("Item", "text log line expect added touch")
 
 PROTECTIONS = {"PROT_NONE": "", "PROT_READ": "r", "PROT_WRITE": "w", "PROT_EXEC": "x"}
-SHARED = "a shared mapping"
 LEFT_OUT_FLAGS = {
-    "MAP_SHARED": SHARED, "MAP_SHARED_VALIDATE": SHARED,
+    "MAP_SHARED": "a shared mapping", "MAP_SHARED_VALIDATE": "a shared mapping",
     "MAP_GROWSDOWN": "a mapping that grows downwards", "MAP_HUGETLB": "huge pages",
 }
 # Calls of strace's sets `memory` and `process` with no counterpart here. Of others nothing is said at all.
@@ -120,7 +121,7 @@ class Turner:
         self.reasons.setdefault((name, why), []).append(self.place_of_call())
 
     def comment(self, text):
-        self.items.append(Item(f"# line {self.place_of_call()}: {text}", self.call.log, self.call.line, None, False, False))
+        self.say(f"# line {self.place_of_call()}: {text}", None)
 
     def say(self, text, expect, added=False, touch=False):
         self.items.append(Item(text, self.call.log, self.call.line, expect, added, touch))
@@ -154,23 +155,32 @@ class Turner:
         self.first = False
 
     def new_space(self, memory, why, added=False):
-        if self.map.least_absent() is None:
-            self.comment(f"process {self.call.pid} has no space: all 64 are present")
-            self.reason("process", "no space for it: all 64 are present")
+        lack = self.lack_of_space(0)
+        if lack:
+            self.comment(f"process {self.call.pid} has no space: {lack}")
+            self.reason("process", f"no space for it: {lack}")
             return
         memory.number = self.map.spawn()
         self.comment(f"process {self.call.pid} has space {memory.number}: {why}")
         self.say("spawn", ("space", memory.number), added=added)
+        if added:
+            self.added.setdefault("a space for a process that no call of the log made", []).append(self.place_of_call())
+
+    def lack_of_space(self, tables):
+        """Why there can't be one space more, with so many tables below its root, or None."""
+        if self.map.least_absent() is None:
+            return f"all {SPACES} are present"
+        if self.map.tables_linked() + 1 + tables > TABLES:
+            return f"{TABLES} page tables are too few"
+        return None
 
     def drop_user(self, pid):
-        """Takes a process out of its memory. True where an `exit` was said."""
+        """Takes a process out of its memory, whose space ends with the last one."""
         memory = self.memories[pid]
         memory.users.discard(pid)
-        if memory.users or memory.number is None:
-            return False
-        self.say(f"exit {memory.number}", ("ok",))
-        self.map.exit(memory.number)
-        return True
+        if not memory.users and memory.number is not None:
+            self.say(f"exit {memory.number}", ("ok",))
+            self.map.exit(memory.number)
 
     def end_process(self, pid):
         if pid in self.memories:
@@ -192,9 +202,10 @@ class Turner:
             self.silent[call.name] += 1
         else:
             self.drop_user(call.pid)
-            self.use(call.pid, Memory(None))
-            self.new_space(self.memories[call.pid], f"it executes {call.args[0]}")
-            self.said[call.name] += 1
+            new = Memory(None)
+            self.use(call.pid, new)
+            self.new_space(new, f"it executes {call.args[0]}")
+            (self.left if new.number is None else self.said)[call.name] += 1
 
     on_execveat = on_execve
 
@@ -202,7 +213,7 @@ class Turner:
         child = call.result
         if call.error:
             self.silent[call.name] += 1
-        elif call.name == "vfork" or "CLONE_VM" in " ".join(call.args).replace("|", " ").replace("=", " ").replace(",", " ").split():
+        elif call.name == "vfork" or re.search(r"\bCLONE_VM\b", " ".join(call.args)):
             self.silent[call.name] += 1
             if child in self.pids:
                 self.use(child, memory)
@@ -212,9 +223,10 @@ class Turner:
             self.fork(child, self.there(memory))
 
     def fork(self, child, memory):
-        if self.map.least_absent() is None:
+        lack = self.lack_of_space(sum(map(len, self.map.tables_of_fork(memory.number).values())))
+        if lack:
             self.use(child, memory.copy(None))
-            raise Left("no space for the child: all 64 are present")
+            raise Left(f"no space for the child: {lack}")
         new = memory.copy(self.map.fork(memory.number))
         self.use(child, new)
         self.comment(f"process {child} has space {new.number}")
@@ -339,7 +351,7 @@ class Turner:
         self.said[call.name] += 1
 
     def map_unlogged(self, memory, first, end):
-        """Pages that the kernel found mapped and no call of the log mapped: an execve did, or what came before the log."""
+        """Pages that the kernel found mapped and no call of the log mapped: an execve did, or a call before the log."""
         for start, stop, cell in self.map.spaces[memory.number].ranges.parts(first, end):
             if cell is None:
                 length = (stop - start) * PAGE
@@ -387,7 +399,7 @@ class Turner:
         self.said[call.name] += 1
 
     def on_mremap(self, call, memory):
-        """Not served yet. What it leaves mapped is said by other calls, so that later ones find it; its bytes are zeros."""
+        """Not served yet. Other calls map what it leaves mapped, so that later ones find it; its bytes are zeros."""
         self.there(memory)
         if call.error:
             raise Left(f"refused with {call.error}")
@@ -399,23 +411,26 @@ class Turner:
             raise Left("a page of it is of a mapping that was left out")
         self.leave("not served yet; the next calls leave the same pages mapped, as zeros")
         cell = self.map.spaces[memory.number].ranges.value(old) or fresh("rw-")
-        if new == old and new_end <= old_end:
+        if new == old:
             self.add_unmap(memory, new_end, old_end)
-        elif new == old:
             self.add_map(memory, old_end, new_end, cell.perm)
         else:
-            self.add_unmap(memory, old, old_end)
+            if "MREMAP_DONTUNMAP" not in call.args[3]:
+                self.add_unmap(memory, old, old_end)
             self.add_map(memory, new, new_end, cell.perm)
 
     def add_unmap(self, memory, first, end):
         if first < end:
-            self.add(f"unmap {memory.number} {first * PAGE:#x} {(end - first) * PAGE}", ("ok",), "what an mremap leaves")
+            text = f"unmap {memory.number} {first * PAGE:#x} {(end - first) * PAGE}"
+            self.add(text, ("ok",), "what an mremap leaves")
             self.map.unmap(memory.number, first, end)
 
     def add_map(self, memory, first, end, perm):
+        if first >= end:
+            return
         fits = self.take_tables(memory, first, end)
-        self.add(f"map {memory.number} at {first * PAGE:#x} {(end - first) * PAGE} {perm} zero", ("at", first * PAGE),
-                 "what an mremap leaves")
+        text = f"map {memory.number} at {first * PAGE:#x} {(end - first) * PAGE} {perm} zero"
+        self.add(text, ("at", first * PAGE), "what an mremap leaves")
         if fits:
             self.map.map(memory.number, first, end, fresh(perm))
         memory.left_out.put(first, end, None if fits else True)
