@@ -11,8 +11,9 @@ use Rattle.table_place.specs.declared.Place.{Place}
 use Rattle.walk_core.specs.Words.{is_link, link_row}
 use Rattle.walk_core.specs.declared.event.SetPart.TheVariants.{Position, Generation}
 use Rattle.walk_core.specs.declared.pass.GrantedRow.{GrantedRow}
+use Rattle.walk_core.specs.declared.pass.UnlinkedRow.{UnlinkedRow}
 use Rattle.walk_core.specs.Lists.{Has, without}
-use Rattle.walk_core.specs.Events.{granted_after_entry, granted_after_part}
+use Rattle.walk_core.specs.Events.{granted_after_entry, granted_after_part, newly_unlinked}
 use Rattle.walk_core.specs.Core.{granted_rows}
 use Rattle.walk_core.proofs.RowLists.{times_without_le, granted_found, has_part}
 use Rattle.walk_core.proofs.KeepsRows.{part_keeps_rows}
@@ -70,6 +71,7 @@ module _ {R B E : Type 0} {n rows : ℕ} {id : TableId} {v : PassView R B E} (ol
     held_rows = old.held_rows;
     stand = old.stand;
     links = old.links;
+    places = old.places;
     granted = let same = part_keeps_rows r (Generation generation) (granted_after_part r (Position place) v.core.granted) ∙ part_keeps_rows r (Position place) v.core.granted in (
       rows_numbered r generation (map (with_place r place) v.hand) ∙ (rows_placed r place v.hand ∙ (old.granted.0 ∙ sym same)),
       λ q has. old.granted.1 q (subst (λ (l : List ℕ). Has l q) same has),
@@ -89,6 +91,7 @@ module _ {R B E : Type 0} {n rows : ℕ} {id : TableId} {v : PassView R B E} (ol
         (λ j inside link. let clash : true ≡ false = sym link ∙ (ap is_link (blank_zero j inside) ∙ zero_no_link) in absurd (cc)))
         (Contains-push_cases v.rows (opened_row r place generation) h i);
     granted = old.granted;
+    places = old.places;
   }
 
   -- the rows that the entries link, after a word was stored
@@ -133,6 +136,7 @@ module _ {R B E : Type 0} {n rows : ℕ} {id : TableId} {v : PassView R B E} (ol
         stand = old.stand;
         links = λ h j. let o = contained_map (λ (y : HeldRow R). with_link linker i (link_row x) (with_word linker.row i x y)) v.rows h j in
             subst (λ (y : HeldRow R). LinksBelow rows y.words) o.2 (with_link_below linker i (link_row x) (with_word linker.row i x o.0) (with_word_below linker.row i x o.0 all_below (old.links o.0 o.1)));
+        places = old.places;
         granted = (
           parts_without hand_part (link_row x) v.hand ∙ (ap (without (link_row x)) old.granted.0 ∙ (sym (parts_without (λ (g : GrantedRow). g.row) (link_row x) v.core.granted)
               ∙ ap (λ (t : Bool). map (λ (g : GrantedRow). g.row) (cond t (filter (λ (g : GrantedRow). not (eqb g.row (link_row x))) v.core.granted) v.core.granted)) (sym link))),
@@ -149,6 +153,7 @@ module _ {R B E : Type 0} {n rows : ℕ} {id : TableId} {v : PassView R B E} (ol
         links = λ h j. let o = contained_map (with_word linker.row i x) v.rows h j in
             subst (λ (y : HeldRow R). LinksBelow rows y.words) o.2 (with_word_below linker.row i x o.0 all_below (old.links o.0 o.1));
         granted = old.granted;
+        places = old.places;
       }
 
   pub sized_cut : (linker : HeldRow R) (i : ℕ) → IsSized n rows id (entry_cut v linker i)
@@ -163,4 +168,9 @@ module _ {R B E : Type 0} {n rows : ℕ} {id : TableId} {v : PassView R B E} (ol
         subst (λ (y : HeldRow R). LinksBelow rows y.words) o.2
         (with_word_below linker.row i 0 o.0 (λ link. let clash : true ≡ false = sym link ∙ zero_no_link in absurd (cc)) (old.links o.0 o.1));
     granted = old.granted;
+    places = (
+      old.places.0,
+      λ u j. ⊎_elim (λ (l : Contains v.core.unlinked u). old.places.1 u l) (λ (e : newly_unlinked (link_row (get_or linker.words i 0)) ≡ u). ap (λ (y : UnlinkedRow). length y.samples) (sym e))
+          (Contains-push_cases v.core.unlinked (newly_unlinked (link_row (get_or linker.words i 0))) u j),
+    );
   }

@@ -12,7 +12,9 @@ use Rattle.table_place.specs.Place.{entry_place}
 use Rattle.walk_core.specs.declared.pass.Stand.{Stand}
 use Rattle.walk_core.specs.Words.{is_link, link_row, link_generation}
 use Rattle.walk_core.specs.declared.pass.GrantedRow.{GrantedRow}
-use Rattle.walk_core.specs.Lists.{Has, times, without}
+use Rattle.walk_core.specs.declared.lists.PutRow.{PutRow}
+use Rattle.walk_core.specs.declared.pass.UnlinkedRow.{UnlinkedRow}
+use Rattle.walk_core.specs.Lists.{Has, times, without, among}
 use Rattle.walk_core.specs.Core.{granted_rows}
 use Rattle.walk_core.specs.Events.{top, stand_after_look, newly_granted}
 use Rattle.walk_core.proofs.RowLists.{times-nil, times-append}
@@ -27,7 +29,7 @@ use Rattle.row_table.specs.Known.{LinksRow, LinksBelow, IsSized}
 use Rattle.row_table.specs.Moves.{grabbed, looked, got, released, MayGrab}
 use Rattle.row_table.specs.Looks.{looked_at, MayLook}
 use Rattle.row_table.specs.Crossings.{entered, left}
-use Rattle.row_table.specs.Books.{given, hand_rows, taken_rows, turned, waited, gave}
+use Rattle.row_table.specs.Books.{given, hand_rows, put_list, taken_rows, turned, waited, gave}
 use Rattle.row_table.specs.Stack.{AreRows}
 use Rattle.row_table.proofs.Views.{kept, has_row, rows_without}
 use Rattle.row_table.proofs.Turns.{same_parts, whole, contained_map}
@@ -98,10 +100,10 @@ module _ {R B E : Type 0} {n rows : ℕ} {id : TableId} {v : PassView R B E} (ol
   -- after each step
 
   pub sized_enter : 0 < rows → IsSized n rows id (entered v)
-  sized_enter some_rows = record { slots = old.slots; words = old.words; rows_are = old.rows_are; number = old.number; held_rows = old.held_rows; stand = λ s is. subst (λ (y : Stand). y.row < rows) (same_Some top s is) some_rows; links = old.links; granted = old.granted }
+  sized_enter some_rows = record { slots = old.slots; words = old.words; rows_are = old.rows_are; number = old.number; held_rows = old.held_rows; stand = λ s is. subst (λ (y : Stand). y.row < rows) (same_Some top s is) some_rows; links = old.links; granted = old.granted; places = old.places }
 
   pub sized_leave : IsSized n rows id (left v)
-  sized_leave = record { slots = old.slots; words = old.words; rows_are = old.rows_are; number = old.number; held_rows = old.held_rows; stand = λ s is. none_is s is; links = old.links; granted = old.granted }
+  sized_leave = record { slots = old.slots; words = old.words; rows_are = old.rows_are; number = old.number; held_rows = old.held_rows; stand = λ s is. none_is s is; links = old.links; granted = old.granted; places = old.places }
 
   pub sized_look : (r i w : ℕ) (place : Place) → (is_link w ≡ true → link_row w < v.layout.rows) → IsSized n rows id (looked_at v r place i w)
   sized_look r i w place below = record {
@@ -113,10 +115,11 @@ module _ {R B E : Type 0} {n rows : ℕ} {id : TableId} {v : PassView R B E} (ol
     stand = stands_after rows (levels_of v.layout) r i w v.core.stand old.stand (λ link. let less = below link in let same = old.rows_are in omega arith);
     links = old.links;
     granted = old.granted;
+    places = old.places;
   }
 
   pub sized_miss : (r : ℕ) (place : Place) (w : ℕ) → IsSized n rows id (looked v r place None w)
-  sized_miss r place w = record { slots = old.slots; words = old.words; rows_are = old.rows_are; number = old.number; held_rows = old.held_rows; stand = old.stand; links = old.links; granted = old.granted }
+  sized_miss r place w = record { slots = old.slots; words = old.words; rows_are = old.rows_are; number = old.number; held_rows = old.held_rows; stand = old.stand; links = old.links; granted = old.granted; places = old.places }
 
   pub sized_got : (r : ℕ) (place : Place) (g : ℕ) (words : List ℕ) (x : R) → LinksBelow v.layout.rows words → IsSized n rows id (got v r place g words x)
   sized_got r place g words x below = record {
@@ -130,6 +133,7 @@ module _ {R B E : Type 0} {n rows : ℕ} {id : TableId} {v : PassView R B E} (ol
         (λ (e : grabbed r place g words x ≡ h). subst (λ (y : HeldRow R). LinksBelow rows y.words) e (subst (λ (m : ℕ). LinksBelow m words) (sym old.rows_are) below))
         (Contains-push_cases v.rows (grabbed r place g words x) h i);
     granted = old.granted;
+    places = old.places;
   }
 
   pub sized_released : (r : ℕ) → IsSized n rows id (released v r)
@@ -142,14 +146,15 @@ module _ {R B E : Type 0} {n rows : ℕ} {id : TableId} {v : PassView R B E} (ol
     stand = old.stand;
     links = λ h i. old.links h (kept (λ (u : HeldRow R). not (eqb u.row r)) v.rows h i).1;
     granted = old.granted;
+    places = old.places;
   }
 
   pub sized_waited : (w : ℕ) → IsSized n rows id (waited v w)
-  sized_waited w = record { slots = old.slots; words = old.words; rows_are = old.rows_are; number = old.number; held_rows = old.held_rows; stand = old.stand; links = old.links; granted = old.granted }
+  sized_waited w = record { slots = old.slots; words = old.words; rows_are = old.rows_are; number = old.number; held_rows = old.held_rows; stand = old.stand; links = old.links; granted = old.granted; places = old.places }
 
   module _ (M : Meaning R B E) where
     pub sized_turned : (book : B) → IsSized n rows id (turned M v book)
-    sized_turned book = record { slots = old.slots; words = old.words; rows_are = old.rows_are; number = old.number; held_rows = old.held_rows; stand = old.stand; links = old.links; granted = old.granted }
+    sized_turned book = record { slots = old.slots; words = old.words; rows_are = old.rows_are; number = old.number; held_rows = old.held_rows; stand = old.stand; links = old.links; granted = old.granted; places = (refl, old.places.1) }
 
     pub sized_gave : (a b : B) (generation : ℕ → ℕ) → ((r : ℕ) → Has (taken_rows M a b) r → r < v.layout.rows) → IsSized n rows id (gave M v a b generation)
     sized_gave a b generation taken = record {
@@ -168,7 +173,8 @@ module _ {R B E : Type 0} {n rows : ℕ} {id : TableId} {v : PassView R B E} (ol
             (λ none_before. let less = taken r (omega arith) in let same = old.rows_are in omega arith)
             (λ before. old.granted.1 r (omega arith)),
       );
+      places = (old.places.0, λ u i. old.places.1 u (kept (λ (y : UnlinkedRow). not (among (map (λ (k : PutRow). k.row) (put_list M a b)) y.row)) v.core.unlinked u i).1);
     }
 
 pub sized_new : {R B E : Type 0} (n rows : ℕ) (id : TableId) (k : Layout) (origin : Option B) → id.slots ≡ rows + 1 → id.words ≡ word_count k → rows ≡ k.rows → n < k.passes → IsSized n rows id (unmoved {R = R} {B = B} {E = E} k origin n)
-sized_new n rows id k origin slots words same less = record { slots = slots; words = words; rows_are = same; number = less; held_rows = refl; stand = λ s is. none_is s is; links = λ h i. let z = i.1 in absurd (omega arith); granted = (refl, λ r has. let z = times-nil r in absurd (omega arith)) }
+sized_new n rows id k origin slots words same less = record { slots = slots; words = words; rows_are = same; number = less; held_rows = refl; stand = λ s is. none_is s is; links = λ h i. let z = i.1 in absurd (omega arith); granted = (refl, λ r has. let z = times-nil r in absurd (omega arith)); places = (refl, λ u i. let z = i.1 in absurd (omega arith)) }

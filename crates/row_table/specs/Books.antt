@@ -32,6 +32,7 @@ use Rattle.row_table.specs.Rule.{Slot, Seat, levels_of, StartsWith, SameRows, vi
 use Rattle.row_table.specs.Vacant.{vacant_entries}
 use Rattle.row_table.specs.Known.{IsAnother, IsRight}
 use Rattle.row_table.specs.Moves.{NotInHand}
+use Rattle.row_table.specs.Blocked.{IsBlocked}
 
 abbrev pub given : {R : Type 0} → HeldRow R → HeldRow R
 given h = record h { is_given = true; vacant = vacant_entries h.words }
@@ -85,6 +86,8 @@ module _ {R B E : Type 0} where
       pub guard : Guard (book_core k old) v.core (give_of v.number old new)
       pub free : SameRows (free_after (give_of v.number old new) (M.free old)) (M.free new)
       pub limbo : M.limbo new ≡ limbo_after (give_of v.number old new) (M.limbo old)
+      -- where there is a new entry and it shows the limbo, each row in limbo has a reader
+      pub blocked : M.shows_limbo new ≡ true → (entry : E) → M.journal new ≡ M.journal old ++ entry ∷ [] → (x : PutRow) → Contains (M.limbo new) x → IsBlocked k.passes v.core x
 
     -- What the pass knows afterwards
 

@@ -4,13 +4,16 @@
 --     IsHolder, IsAnother, IsLoose      which pass holds a row, another pass, and a row that nobody may take
 --     LinksBelow, LinksLead      the rows that entry words link are there, and at positions of tables
 --     IsRight      what is always true of what a pass knows
+--     HasPlaces      samples have a place for each pass
 --     IsSized      what a pass keeps of the sizes of its table and of the rows of its view
-use Rattle.std.specs.Prelude.{◌≡◌, ◌≢◌, ℕ, ◌+◌, ◌%◌, ◌^◌, ◌<◌, ◌≤◌, ◌⊎◌, true, List, map, length, slice_index, Some}
+use Rattle.std.specs.Prelude.{◌≡◌, ◌≢◌, ℕ, ◌+◌, ◌%◌, ◌^◌, ◌<◌, ◌≤◌, ◌⊎◌, true, List, map, length, slice_index, Option, Some}
 use Rattle.std.specs.List.{Contains}
 use Rattle.atomic_table.specs.Seated.{TableId}
 use Rattle.table_place.specs.declared.Place.{Place}
 use Rattle.table_place.specs.Place.{entry_place, is_place}
+use Rattle.walk_core.specs.declared.pass.SampleBounds.{SampleBounds}
 use Rattle.walk_core.specs.declared.pass.Stand.{Stand}
+use Rattle.walk_core.specs.declared.pass.UnlinkedRow.{UnlinkedRow}
 use Rattle.walk_core.specs.Words.{is_link, link_row, link_generation}
 use Rattle.walk_core.specs.Lists.{Has, IsDistinct}
 use Rattle.walk_core.specs.Core.{granted_rows}
@@ -27,6 +30,10 @@ LinksBelow rows words = (index : ℕ) → index < 512 → is_link (slice_index w
 -- where there are so many levels: the links of a row at this position lead to positions of tables
 abbrev pub LinksLead : ℕ → Place → List ℕ → Type 0
 LinksLead levels place words = (index : ℕ) → index < 512 → is_link (slice_index words index) ≡ true → is_place levels (entry_place levels place index) ≡ true
+
+-- the samples since the turn and those of each row that was unlinked have a place for each pass
+abbrev pub HasPlaces : List (Option SampleBounds) → List UnlinkedRow → Type 0
+HasPlaces samples unlinked = (length samples ≡ 8) × ((u : UnlinkedRow) → Contains unlinked u → length u.samples ≡ 8)
 
 module _ {R B E : Type 0} where
   -- The rows of the view are those that the pass holds, each once and with 512 entry words, and those of its hand the ones that it was granted. Its epoch is odd where it is inside.
@@ -87,3 +94,4 @@ module _ {R B E : Type 0} where
     pub links : (h : HeldRow R) → Contains v.rows h → LinksBelow rows h.words
     -- the rows of its hand are those that it was granted, and are there
     pub granted : (map hand_part v.hand ≡ granted_rows v.core) × ((r : ℕ) → Has (granted_rows v.core) r → r < rows)
+    pub places : HasPlaces v.core.samples v.core.unlinked

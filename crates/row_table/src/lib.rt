@@ -13,7 +13,9 @@ mod marking;
 mod opening;
 mod pass;
 mod plan;
+mod reuse_laws;
 mod rooms;
+mod sample;
 mod stack;
 mod start_laws;
 mod table;
@@ -32,6 +34,10 @@ pub use laws::{
 };
 pub use pass::Pass;
 pub use plan::Plan;
+pub use reuse_laws::{
+    a_sample_is_an_event, an_epoch_word_is_odd_while_its_pass_is_inside,
+    no_pass_stands_on_a_swept_row,
+};
 pub use row_layout::Layout;
 pub use start_laws::a_table_starts_with_an_empty_space;
 pub use table::Iron;
