@@ -56,8 +56,8 @@ module _ {R B E : Type 0} where
   pub hand_same : (v : PassView R B E) (x n r : ℕ) → times_in_hand r (sampled v x n).core ≡ times_in_hand r v.core
   hand_same v x n r = ap (λ (l : List ℕ). times r (granted_rows v.core) + times r l) (rows_same x n v.core.held v.core.unlinked)
 
-  pub sized_sample : {n rows : ℕ} {id : TableId} {v : PassView R B E} → IsSized n rows id v → (x w : ℕ) → IsSized n rows id (sampled v x w)
-  sized_sample {v = v} old x w = record { slots = old.slots; words = old.words; rows_are = old.rows_are; number = old.number; held_rows = old.held_rows; stand = old.stand; links = old.links; granted = old.granted; places = places_stay x w v.core.held v.core.samples v.core.unlinked old.places }
+  pub sized_sample : {n rows epoch : ℕ} {id : TableId} {v : PassView R B E} → IsSized n rows epoch id v → (x w : ℕ) → IsSized n rows epoch id (sampled v x w)
+  sized_sample {v = v} old x w = record { slots = old.slots; words = old.words; rows_are = old.rows_are; number = old.number; same_epoch = old.same_epoch; counted = old.counted; long = old.long; held_rows = old.held_rows; stand = old.stand; links = old.links; granted = old.granted; places = places_stay x w v.core.held v.core.samples v.core.unlinked old.places }
 
   module _ (M : Meaning R B E) where
     sample_is : (k : Layout) (first : B) (s : Table R B E) (h : Holds M k first s) (v : PassView R B E) → get_elem? h.passes v.number ≡ some v → (x : ℕ) → x < k.passes
@@ -122,5 +122,5 @@ module _ {R B E : Type 0} where
     samples_at k first slots id m n x place at one less out =
         subst (λ (j : ℕ). Allows (Holds M k first) slots id m j (λ y. y) (SampleTells M (step slots j 0 0 none) m)) (sym at) (samples k first slots id m n x one less out)
 
-    pub samples_event : (v w : PassView R B E) (x n : ℕ) → Samples M x v n w → IsEvent (Sample v.number x) n v w
-    samples_event v w x n t = record { own = refl; after = ap (λ (y : PassView R B E). y.core) t.1 }
+    pub samples_event : (v w : PassView R B E) (x n : ℕ) → Samples M x v n w → IsEvent (Sample v.number x) (epoch_at v.layout.rows x) n n v w
+    samples_event v w x n t = record { own = refl; at = refl; now = refl; after = ap (λ (y : PassView R B E). y.core) t.1 }

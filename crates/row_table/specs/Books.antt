@@ -28,7 +28,7 @@ use Rattle.row_table.specs.declared.view.PassView.{PassView}
 use Rattle.row_table.specs.declared.view.HeldRow.{HeldRow}
 use Rattle.row_table.specs.declared.view.HandRow.{HandRow}
 use Rattle.row_table.specs.Plan.{Meaning, Region}
-use Rattle.row_table.specs.Rule.{Slot, Seat, levels_of, StartsWith, SameRows, view, own_places, core_of, Agrees}
+use Rattle.row_table.specs.Rule.{Slot, Seat, StartsWith, SameRows, view, own_places, core_of, Agrees}
 use Rattle.row_table.specs.Vacant.{vacant_entries}
 use Rattle.row_table.specs.Known.{IsAnother, IsRight}
 use Rattle.row_table.specs.Moves.{NotInHand}
@@ -50,7 +50,7 @@ module _ {R B E : Type 0} where
     pub inside : index < 512
     pub link : is_link (slice_index linker.words index) ≡ true
     pub child_held : ¬ Has v.core.held (link_row (slice_index linker.words index))
-    pub place : p ≡ entry_place (levels_of v.layout) linker.place index
+    pub place : p ≡ entry_place v.layout.levels linker.place index
 
   abbrev pub region : PassView R B E → Region
   region v = record {

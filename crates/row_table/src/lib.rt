@@ -26,7 +26,7 @@ pub use close::{IronClose, Parts};
 pub use event_laws::{
     a_grab_is_an_event, a_look_is_an_event, a_release_and_a_mark_are_events,
     a_set_entry_and_an_unlink_are_events, a_set_up_is_two_events, a_turn_and_a_give_are_events,
-    an_enter_and_a_leave_are_events, an_opening_is_an_event,
+    an_enter_and_a_leave_are_events, an_opening_is_an_event, other_events_keep_the_lists,
 };
 pub use laws::{
     a_held_row_is_as_its_pass_knows_it, a_pass_stands_on_the_row_that_it_came_to,

@@ -1,6 +1,7 @@
 //! What holds of epochs and of rows that are used again, as contracts of functions that do nothing.
 ghost use Rattle.std.specs.Prelude.{ℕ};
 ghost use Rattle.walk_core.specs.declared.event.Event.TheVariants as event;
+ghost use Rattle.walk_core.specs.Words.{epoch_at};
 ghost use Rattle.row_layout.specs.declared.places.Layout.{Layout};
 ghost use Rattle.row_table.specs.declared.view.PassView.{PassView};
 ghost use Rattle.row_table.specs.Rule.{Table, Holds};
@@ -10,10 +11,10 @@ ghost use Rattle.row_table.specs.Reuse.{EpochsTrue, NoneRead};
 
 use crate::plan::Plan;
 
-/// A sample that answered this number.
+/// A sample that answered this number left it in the other pass's epoch word.
 pub fn a_sample_is_an_event<P: Plan>()
     ensures { (v w : PassView P.Row P.Book P.Entry) (other number : ℕ) → Samples P.meaning other v number w
-        → IsEvent (event.Sample v.number other) number v w }
+        → IsEvent (event.Sample v.number other) (epoch_at v.layout.rows other) number number v w }
 {}
 
 /// Wherever the rule holds, the epoch word of each pass is odd while the pass is inside, and even while it is outside. So this is what a
