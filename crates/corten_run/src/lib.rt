@@ -10,8 +10,3 @@ mod top;
 
 pub use laws::{the_history_of_solo_is_legal, the_text_of_solo_is_a_history_text};
 pub use top::corten_plain;
-
-#[cfg(test)]
-mod tests;
-#[cfg(test)]
-mod worked_scripts;

@@ -187,6 +187,3 @@ impl CountedPages {
         self.shares.free()
     }
 }
-
-#[cfg(test)]
-mod tests;

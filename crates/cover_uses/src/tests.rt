@@ -1,4 +1,5 @@
 ghost use Rattle.std.specs.Prelude.{◌≡◌, ◌<◌, ◌≤◌, ◌^◌, ⊤, [], MatchOption, IfOk};
+ghost use Rattle.row_table.specs.Rule.{levels_of};
 ghost use Rattle.row_table.specs.Passes.{view_of, table_of, layout_of, IsPassOf};
 ghost use Rattle.row_table.specs.Close.{IsIdle};
 ghost use Rattle.row_uses.specs.Sown.{HasBeds};
@@ -124,7 +125,7 @@ pub(crate) fn grow(
 pub(crate) fn pages(first: u64, count: u64, strict: bool) -> Zone
     requires first { (16 ≤ first) × (first < 2 ^ 33) }
     requires count { (1 ≤ count) × (count < 2 ^ 33) }
-    ensures { IsZone result }
+    ensures { IsZone 4 result }
 {
     Zone::Pages {
         space: 0,
@@ -153,7 +154,7 @@ fn attempt(
 ) -> (Tried, (usize, Option<u32>, Option<u32>))
     requires table { IsPassOf iron.now pass.old }
     requires free { IsFree (view_of pass.old) }
-    requires zone { IsZone zone.now }
+    requires zone { IsZone (levels_of (layout_of iron.now)) zone.now }
     requires empty { held.old.rows ≡ [] }
     requires room { (layout_of iron.now).rows ≤ held.old.room }
     ensures table { table_of pass.new ≡ table_of pass.old }
@@ -184,7 +185,7 @@ fn while_held(
 ) -> Option<(Tried, (usize, Option<u32>, Option<u32>))>
     requires tables { IsPassOf iron.now first.old × IsPassOf iron.now second.old }
     requires free { IsFree (view_of first.old) × IsFree (view_of second.old) }
-    requires zones { IsZone zone.now × IsZone other.now }
+    requires zones { IsZone (levels_of (layout_of iron.now)) zone.now × IsZone (levels_of (layout_of iron.now)) other.now }
     requires empty { (one.old.rows ≡ []) × (two.old.rows ≡ []) }
     requires room { ((layout_of iron.now).rows ≤ one.old.room) × ((layout_of iron.now).rows ≤ two.old.room) }
     ensures tables { (table_of first.new ≡ table_of first.old) × (table_of second.new ≡ table_of second.old) }

@@ -1,4 +1,5 @@
 ghost use Rattle.std.specs.Prelude.{◌≡◌, ◌≤◌, []};
+ghost use Rattle.row_table.specs.Rule.{levels_of};
 ghost use Rattle.row_table.specs.Passes.{view_of, table_of, layout_of, IsPassOf};
 ghost use Rattle.row_table.specs.Close.{IsIdle};
 ghost use Rattle.tree_lock.specs.Zone.{IsZone};
@@ -24,7 +25,7 @@ fn covered(
 ) -> (usize, Option<u32>, Option<u32>)
     requires table { IsPassOf iron.now pass.old }
     requires idle { IsIdle (view_of pass.old) }
-    requires zone { IsZone zone.now }
+    requires zone { IsZone (levels_of (layout_of iron.now)) zone.now }
     requires empty { held.old.rows ≡ [] }
     requires room { (layout_of iron.now).rows ≤ held.old.room }
     ensures table { table_of pass.new ≡ table_of pass.old }

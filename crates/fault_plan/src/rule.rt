@@ -58,38 +58,3 @@ pub fn decide(cell: &Status, write: bool, count: u32, past_end: bool) -> Decisio
         Status::Swapped { .. } => Decision::SwapIn,
     }
 }
-
-#[cfg(test)]
-mod tests {
-    use super::*;
-    use bitflags::Flags;
-
-    #[test]
-    fn decides_by_the_cell(rt: HostRuntime) {
-        let rw = Perm::from_bits_retain(3);
-        let read = Perm::R;
-        let mapped = Status::Mapped { perm: rw, frame: 0 };
-        let file = Status::File {
-            perm: read,
-            file: 0,
-            index: 1,
-        };
-        let slot = Status::Swapped { perm: rw, slot: 0 };
-        assert_eq!(rt; decide(&Status::Invalid, false, 0, false), Decision::Segv);
-        assert_eq!(rt;
-            decide(&Status::Anon(read), true, 0, false),
-            Decision::Denied
-        );
-        assert_eq!(rt;
-            decide(&Status::Anon(read), false, 0, false),
-            Decision::ZeroFill
-        );
-        assert_eq!(rt; decide(&file, true, 0, true), Decision::Denied);
-        assert_eq!(rt; decide(&file, false, 0, true), Decision::Bus);
-        assert_eq!(rt; decide(&file, false, 0, false), Decision::FromFile);
-        assert_eq!(rt; decide(&mapped, false, 2, false), Decision::Ready);
-        assert_eq!(rt; decide(&mapped, true, 1, false), Decision::TakeOver);
-        assert_eq!(rt; decide(&mapped, true, 2, false), Decision::CopyOut);
-        assert_eq!(rt; decide(&slot, false, 0, false), Decision::SwapIn);
-    }
-}

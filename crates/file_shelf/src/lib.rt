@@ -133,22 +133,3 @@ impl Shelf {
         Some(file.bytes.as_slice())
     }
 }
-
-#[cfg(test)]
-mod tests {
-    use super::*;
-    use std::alloc::AllocError;
-
-    #[test]
-    fn file_page_and_past_its_end(rt: HostRuntime) -> Result<(), AllocError> {
-        let mut shelf = Shelf::new(rt.alloc());
-        let hello = Vec::from_slice(rt.alloc(), b"hello")?;
-        assert_eq!(rt; shelf.add(hello), Ok(()));
-        assert_eq!(rt; shelf.count(), 1);
-        assert_eq!(rt; shelf.bytes(0), Some(b"hello".as_slice()));
-        assert!(rt; matches!(shelf.page(0, 0), FilePage::Bytes(b"hello")));
-        assert!(rt; matches!(shelf.page(0, 1), FilePage::PastEnd));
-        assert!(rt; matches!(shelf.page(1, 0), FilePage::NoFile));
-        Ok(())
-    }
-}

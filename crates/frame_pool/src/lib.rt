@@ -159,6 +159,3 @@ impl Pool {
         self.pages.free()
     }
 }
-
-#[cfg(test)]
-mod tests;

@@ -67,20 +67,3 @@ impl FreeNumbers {
         self.least_first.len() as u32
     }
 }
-
-#[cfg(test)]
-mod tests {
-    use super::*;
-
-    #[test]
-    fn the_least_comes_first(rt: HostRuntime) -> Result<(), AllocError> {
-        let mut numbers = FreeNumbers::new(rt.alloc(), 4)?;
-        numbers.put(3);
-        numbers.put(1);
-        assert_eq!(rt; numbers.count(), 2);
-        assert_eq!(rt; numbers.take(), Some(1));
-        assert_eq!(rt; numbers.take(), Some(3));
-        assert_eq!(rt; numbers.take(), None);
-        Ok(())
-    }
-}

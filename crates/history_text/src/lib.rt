@@ -32,6 +32,3 @@ pub use laws::{
 pub use reading::read_history;
 pub use verdict::Verdict;
 pub use writer::{Written, write_accounts, write_entry, write_history};
-
-#[cfg(test)]
-mod tests;

@@ -13,8 +13,3 @@ mod transactions;
 
 pub use plain::Plain;
 pub use step::StepFault;
-
-#[cfg(test)]
-mod tests;
-#[cfg(test)]
-mod transaction_tests;

@@ -1,12 +1,12 @@
 -- Words begin with the words of one place and of one backing at most.
-use Rattle.std.proofs.Common.{◌≡◌, ◌≢◌, ℕ, ◌≤◌, List, [], ◌∷◌, ◌++◌, codes, refl, sym, ap, ◌∙◌, arith}
+use Rattle.std.proofs.Common.{◌≡◌, ◌≢◌, ℕ, ◌≤◌, List, ◌∷◌, ◌++◌, codes, refl, sym, ap, ◌∙◌, arith}
 use Rattle.corten_base.specs.declared.calls.MapPlace.{MapPlace}
 use Rattle.corten_base.specs.declared.calls.MapPlace.TheVariants as place
 use Rattle.corten_base.specs.declared.calls.Backing.{Backing}
 use Rattle.corten_base.specs.declared.calls.Backing.TheVariants as backing
 use Rattle.text_words.specs.Spelling.{number}
 use Rattle.text_words.proofs.OneValue.{number_injective, address_injective}
-use Rattle.mm_script.specs.CallLine.{place_words, backing_words, IsNumber, IsPlace, IsBacking}
+use Rattle.mm_script.specs.CallLine.{place_words, backing_words, IsPlace, IsBacking}
 use Rattle.mm_script.proofs.CallForms.{other_word}
 
 pub same_number : (m n high : ℕ) → m ≤ high → n ≤ high → high ≤ 4096 → number m ≡ number n → m ≡ n
@@ -24,12 +24,16 @@ same_place (place.At at) (place.New at') x y ha hb same = absurd (other_word (co
 same_place (place.New at) place.Any x y ha hb same = absurd (other_word (codes "new") (codes "any") _ _ refl same)
 same_place (place.New at) (place.At at') x y ha hb same = absurd (other_word (codes "new") (codes "at") _ _ refl same)
 
--- no number stands behind a place
-pub no_length : (words behind_space behind_place rest : List (List ℕ)) (space space' len : ℕ) (at at' : MapPlace) → IsPlace at → IsPlace at' → words ≡ number space ∷ behind_space → behind_space ≡ place_words at ++ behind_place → IsNumber len
-    → ((n : ℕ) (more : List (List ℕ)) → IsNumber n → behind_place ≢ number n ∷ more) → words ≢ number space' ∷ (place_words at' ++ number len ∷ rest)
-no_length words behind_space behind_place rest space space' len at at' ha hb space_is place_is fits none are =
-    let both : number space ∷ (place_words at ++ behind_place) ≡ number space' ∷ (place_words at' ++ number len ∷ rest) = ap (λ ws. number space ∷ ws) (sym place_is) ∙ sym space_is ∙ are in
-    none len rest fits (same_place at at' behind_place (number len ∷ rest) ha hb (cc both)).1
+-- what stands behind a place is no other words
+pub no_behind_place : (words behind_space behind_place rest : List (List ℕ)) (space space' : ℕ) (at at' : MapPlace) → IsPlace at → IsPlace at' → words ≡ number space ∷ behind_space → behind_space ≡ place_words at ++ behind_place
+    → behind_place ≢ rest → words ≢ number space' ∷ (place_words at' ++ rest)
+no_behind_place words behind_space behind_place rest space space' at at' ha hb space_is place_is none are =
+    let both : number space ∷ (place_words at ++ behind_place) ≡ number space' ∷ (place_words at' ++ rest) = ap (λ ws. number space ∷ ws) (sym place_is) ∙ sym space_is ∙ are in
+    none (same_place at at' behind_place rest ha hb (cc both)).1
+
+-- words as they are behind the first
+pub behind_first : (word word' : List ℕ) (rest rest' words : List (List ℕ)) → words ≡ word ∷ rest → words ≡ word' ∷ rest' → rest ≡ rest'
+behind_first word word' rest rest' words is are = cc
 
 same_file : (file index file' index' : ℕ) → file ≡ file' → index ≡ index' → backing.File file index ≡ backing.File file' index'
 same_file file index file' index' f n = λ i. backing.File (f i) (n i)

@@ -1,14 +1,13 @@
 -- Operations of a transaction, printed one after another.
-use Rattle.std.proofs.Common.{◌≡◌, ℕ, ◌+◌, ◌<◌, List, [], ◌∷◌, ◌++◌, take, drop, length, get_or, codes, refl, sym, ap, ◌∙◌, arith}
+use Rattle.std.proofs.Common.{◌≡◌, ℕ, ◌+◌, ◌<◌, List, [], ◌∷◌, ◌++◌, take, drop, length, get_or, codes, refl, sym, ap, ◌∙◌}
 use Rattle.std.specs.Prelude.{Result, Ok, Err, OnOk, OnErr}
-use Rattle.std.specs.List.{flat_map}
 use Rattle.std.proofs.Math.Seq.{take-append_seam}
 use Rattle.std.proofs.lemmas.List.{append-nil, append_assoc, take_more, take-append-drop}
 use Rattle.corten_base.specs.declared.calls.TxnOp.{TxnOp}
 use Rattle.corten_base.specs.declared.calls.TxnOp.TheVariants as op
 use Rattle.text_words.specs.Spelling.{number, address, permission}
 use Rattle.text_words.specs.Layout.{joined}
-use Rattle.mm_script.specs.CallLine.{backing_words, fresh_word, op_words, more_ops_words, ops_words, spaced}
+use Rattle.mm_script.specs.CallLine.{backing_words, fresh_word, op_words, more_ops_words, spaced}
 
 -- joined words are a first one and the others, each behind a space
 pub joined_spaced : (word : List ℕ) (words : List (List ℕ)) → joined (word ∷ words) ≡ word ++ spaced words

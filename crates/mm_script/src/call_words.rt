@@ -61,11 +61,14 @@ pub(crate) fn next_place(words: &mut Words<'_>) -> Option<MapPlace>
     ensures found { IfSome result (λ at. IsPlace at × (words.old ≡ place_words at ++ words.new)) }
     ensures none { IfNone result ((at : MapPlace) (rest : List (List ℕ)) → IsPlace at → words.old ≢ place_words at ++ rest) }
 {
-    match words.next_word()? {
-        b"any" => Some(MapPlace::Any),
-        b"at" => Some(MapPlace::At(next_address(words)?)),
-        b"new" => Some(MapPlace::New(next_address(words)?)),
-        _ => None,
+    if words.take_word(b"any") {
+        Some(MapPlace::Any)
+    } else if words.take_word(b"at") {
+        Some(MapPlace::At(next_address(words)?))
+    } else if words.take_word(b"new") {
+        Some(MapPlace::New(next_address(words)?))
+    } else {
+        None
     }
 }
 
@@ -82,13 +85,15 @@ pub(crate) fn next_backing(words: &mut Words<'_>) -> Option<Backing>
     ensures found { IfSome result (λ what. IsBacking what × (words.old ≡ backing_words what ++ words.new)) }
     ensures none { IfNone result ((what : Backing) (rest : List (List ℕ)) → IsBacking what → words.old ≢ backing_words what ++ rest) }
 {
-    match words.next_word()? {
-        b"zero" => Some(Backing::Zero),
-        b"file" => Some(Backing::File {
+    if words.take_word(b"zero") {
+        Some(Backing::Zero)
+    } else if words.take_word(b"file") {
+        Some(Backing::File {
             file: next_within(words, 0, 15)? as u8,
             index: next_number(words)?,
-        }),
-        _ => None,
+        })
+    } else {
+        None
     }
 }
 
@@ -97,10 +102,12 @@ pub(crate) fn next_write(words: &mut Words<'_>) -> Option<bool>
     ensures found { IfSome result (λ write. words.old ≡ access_word write ∷ words.new) }
     ensures none { IfNone result ((write : Bool) (rest : List (List ℕ)) → words.old ≢ access_word write ∷ rest) }
 {
-    match words.next_word()? {
-        b"r" => Some(false),
-        b"w" => Some(true),
-        _ => None,
+    if words.take_word(b"r") {
+        Some(false)
+    } else if words.take_word(b"w") {
+        Some(true)
+    } else {
+        None
     }
 }
 

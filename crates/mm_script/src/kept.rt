@@ -22,5 +22,5 @@ pub(crate) fn next_kept<'a>(lines: &mut Lines<'a>) -> Option<&'a [u8]>
 fn skips(line: &[u8]) -> bool
     ensures { result ≡ is_skipped line.now }
 {
-    matches!(line, [] | [b'#', ..])
+    line.is_empty() || line[0] == b'#'
 }

@@ -33,6 +33,3 @@ pub use laws::{
 pub use printing::{print_call, push_call};
 pub use reading::read_script;
 pub use script::Script;
-
-#[cfg(test)]
-mod tests;

@@ -20,10 +20,12 @@ fn next_fresh(words: &mut Words<'_>) -> Option<bool>
     ensures found { IfSome result (λ fresh. words.old ≡ fresh_word fresh ∷ words.new) }
     ensures none { IfNone result ((fresh : Bool) (rest : List (List ℕ)) → words.old ≢ fresh_word fresh ∷ rest) }
 {
-    match words.next_word()? {
-        b"at" => Some(false),
-        b"new" => Some(true),
-        _ => None,
+    if words.take_word(b"at") {
+        Some(false)
+    } else if words.take_word(b"new") {
+        Some(true)
+    } else {
+        None
     }
 }
 

@@ -126,34 +126,3 @@ pub fn entries_are_those_of_the_core()
         Spells (Pte.Leaf frame write exec) word ↔
         ((words.is_leaf word ≡ true) × (words.leaf_frame word ≡ frame) × (words.leaf_write word ≡ write) × (words.leaf_exec word ≡ exec)) }
 {}
-
-#[cfg(test)]
-mod tests {
-    use super::*;
-
-    #[test]
-    fn spells_entries(rt: HostRuntime) {
-        let sole = leaf_word(0, true, true, false, true);
-        assert_eq!(rt; sole, 0x8000_0000_0000_0007);
-        assert_eq!(rt; leaf_word(1, true, false, true, false), 0x1005);
-        assert_eq!(rt; table_word(3, 2), 0x80_3207);
-        assert_eq!(rt; leaf_word(5, false, true, true, true), 0);
-    }
-
-    #[test]
-    fn reads_words(rt: HostRuntime) {
-        let link = Pte::Table {
-            row: 3,
-            generation: 2,
-        };
-        let leaf = Pte::Leaf {
-            frame: 1,
-            write: false,
-            exec: true,
-        };
-        assert_eq!(rt; read_word(0), Ok(Pte::Empty));
-        assert_eq!(rt; read_word(0x80_3207), Ok(link));
-        assert_eq!(rt; read_word(0x1005), Ok(leaf));
-        assert_eq!(rt; read_word(0x1004), Err(Strange(0x1004)));
-    }
-}

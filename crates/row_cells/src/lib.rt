@@ -115,21 +115,3 @@ fn invalid_cells(alloc: Global, count: u32) -> Result<Vec<Cell>, AllocError>
     }
     Ok(cells)
 }
-
-#[cfg(test)]
-mod tests {
-    use super::*;
-
-    #[test]
-    fn used_cells_are_counted(rt: HostRuntime) -> Result<(), AllocError> {
-        let mut cells = Cells::new(rt.alloc())?;
-        assert_eq!(rt; cells.used(), 0);
-        assert!(rt; !cells.replace(511, Cell::Table).is_used());
-        assert!(rt; matches!(cells.get(511), Cell::Table));
-        assert!(rt; !cells.replace(0, Cell::Invalid).is_used());
-        assert_eq!(rt; cells.used(), 1);
-        assert!(rt; cells.replace(511, Cell::Invalid).is_used());
-        assert_eq!(rt; cells.used(), 0);
-        Ok(())
-    }
-}

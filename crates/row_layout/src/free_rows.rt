@@ -59,20 +59,3 @@ impl FreeRows {
         self.rows.count()
     }
 }
-
-#[cfg(test)]
-mod tests {
-    use super::*;
-
-    #[test]
-    fn the_least_row_comes_first(rt: HostRuntime) -> Result<(), AllocError> {
-        let mut free = FreeRows::new(rt.alloc(), 4)?;
-        free.put(3);
-        free.put(2);
-        assert_eq!(rt; free.count(), 2);
-        assert_eq!(rt; free.take(), Some(2));
-        assert_eq!(rt; free.take(), Some(3));
-        assert_eq!(rt; free.take(), None);
-        Ok(())
-    }
-}

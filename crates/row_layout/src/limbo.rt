@@ -85,32 +85,3 @@ impl Limbo {
         sampled.blocked_at = blocked_at;
     }
 }
-
-#[cfg(test)]
-mod tests {
-    use super::*;
-
-    fn unblocked(row: u32) -> Sampled {
-        Sampled {
-            row,
-            samples: [0; 8],
-            blocker: 255,
-            blocked_at: 0,
-        }
-    }
-
-    #[test]
-    fn rows_keep_their_order(rt: HostRuntime) -> Result<(), AllocError> {
-        let mut limbo = Limbo::new(rt.alloc(), 3)?;
-        limbo.push(unblocked(4));
-        limbo.push(unblocked(2));
-        limbo.push(unblocked(3));
-        assert_eq!(rt; limbo.list().len(), 3);
-        limbo.set_blocker(2, 1, 7);
-        assert_eq!(rt; limbo.remove(0).row, 4);
-        assert_eq!(rt; limbo.list()[0].row, 2);
-        let last = limbo.list()[1];
-        assert_eq!(rt; (last.row, last.blocker, last.blocked_at), (3, 1, 7));
-        Ok(())
-    }
-}

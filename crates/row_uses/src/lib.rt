@@ -2,11 +2,5 @@
 //! these, `row_table`'s `Blank`.
 #![tactic(auto)]
 
-#[cfg(test)]
-mod linking_tests;
 pub mod sowing;
-#[cfg(test)]
-mod sowing_tests;
-#[cfg(test)]
-mod tests;
 pub mod uses;

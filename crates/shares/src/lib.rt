@@ -90,23 +90,3 @@ impl Shares {
         self.unused.count()
     }
 }
-
-#[cfg(test)]
-mod tests {
-    use super::*;
-
-    #[test]
-    fn a_dropped_number_is_taken_again(rt: HostRuntime) -> Result<(), AllocError> {
-        let mut shares = Shares::new(rt.alloc(), 2)?;
-        assert_eq!(rt; shares.take(), Some(0));
-        assert_eq!(rt; shares.take(), Some(1));
-        assert_eq!(rt; shares.take(), None);
-        assert_eq!(rt; shares.count(0), 1);
-        shares.share(0);
-        assert_eq!(rt; shares.count(0), 2);
-        shares.drop_one(1);
-        assert_eq!(rt; shares.free(), 1);
-        assert_eq!(rt; shares.take(), Some(1));
-        Ok(())
-    }
-}

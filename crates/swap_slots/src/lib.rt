@@ -143,6 +143,3 @@ impl Area {
         self.pages.free()
     }
 }
-
-#[cfg(test)]
-mod tests;

@@ -25,6 +25,3 @@ pub use number::{push_number, read_number};
 pub use perm::{push_perm, read_perm};
 pub use printing::{Word, push_words};
 pub use words::Words;
-
-#[cfg(test)]
-mod tests;

@@ -53,11 +53,11 @@ module _ {R B E : Type 0} (M : Meaning R B E) where
   pub record Releasing (v0 v : PassView R B E) (rows0 rows : List (HeldRow R)) (done : ℕ) : Type 0 where
     pub count : length rows + done ≡ length rows0
     pub once : IsDistinct (row_numbers rows)
-    pub exact : HoldsExactly rows v
+    pub exact : HoldsExactly rows v.core.held v.rows
     pub each : MayReleaseAll M rows v
     pub others : v ≡ record v0 { core = record v0.core { held = v.core.held }; rows = v.rows }
 
-  pub started : (v : PassView R B E) (rows : List (HeldRow R)) → IsDistinct (row_numbers rows) → HoldsExactly rows v → MayReleaseAll M rows v → Releasing v v rows rows 0
+  pub started : (v : PassView R B E) (rows : List (HeldRow R)) → IsDistinct (row_numbers rows) → HoldsExactly rows v.core.held v.rows → MayReleaseAll M rows v → Releasing v v rows rows 0
   started v rows once exact each = record { count = omega arith; once = once; exact = exact; each = each; others = refl }
 
   removed_row : (n : ℕ) (h : HeldRow R) (old new : List (HeldRow R)) → IsRemoved n h old new → Contains old h
@@ -82,7 +82,7 @@ module _ {R B E : Type 0} (M : Meaning R B E) where
         (λ (z : Contains i.after x). Contains-append_right i.before (h ∷ i.after) x (in_tail h i.after x z))
         (Contains-append_cases i.before i.after x (subst (λ (l : List (HeldRow R)). Contains l x) i.is c)))
 
-    exact_after : HoldsExactly old v → HoldsExactly new (released v h.row)
+    exact_after : HoldsExactly old v.core.held v.rows → HoldsExactly new (released v h.row).core.held (released v h.row).rows
     exact_after exact = record {
       held = λ r. dite (ℕ_discrete r h.row)
           (λ e. subst (λ (q : ℕ). times q (row_numbers new) ≡ times q (without h.row v.core.held)) (sym e) (gone ∙ sym (times_without_same h.row h.row v.core.held refl)))

@@ -4,6 +4,7 @@ pub mod Rows
 pub mod Emptying
 pub mod Meeting
 pub mod Linked
+pub mod Levels
 pub mod Looking
 pub mod Toppings
 pub mod Taking

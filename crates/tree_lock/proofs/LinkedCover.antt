@@ -34,13 +34,13 @@ spans_up : (zone : Zone) (p q : Place) → Covers p q → Spans zone q → Spans
 spans_up zone p q covers h = record { all = λ s x z. covers s x (h.all s x z); greater = λ strict lies. h.greater strict (λ s x has. lies s x (covers s x has)) }
 
 -- the first page of a zone of pages
-pub some_page : (s f n : ℕ) (b : Bool) → IsZone (Pages s f n b) → ZoneHas (Pages s f n b) s f
-some_page s f n b z = (refl, omega arith, (let some = z.1 in omega arith))
+pub some_page : (levels s f n : ℕ) (b : Bool) → IsZone levels (Pages s f n b) → ZoneHas (Pages s f n b) s f
+some_page levels s f n b z = (refl, omega arith, (let some = z.1 in omega arith))
 
-module _ (words : List ℕ) (t : IsLinkTree words) where
+module _ {levels : ℕ} (words : List ℕ) (t : IsLinkTree levels words) where
   -- The top of a zone of pages
 
-  pub is_top : (s f n : ℕ) (b : Bool) (top : ℕ) → IsZone (Pages s f n b) → IsReached words top → IsTopped (Pages s f n b) words top → IsTopRow (Pages s f n b) words top
+  pub is_top : (s f n : ℕ) (b : Bool) (top : ℕ) → IsZone levels (Pages s f n b) → IsReached words top → IsTopped (Pages s f n b) words top → IsTopRow (Pages s f n b) words top
   is_top s f n b top z o h = record {
     reached = o;
     spans = h.spans;
@@ -48,7 +48,7 @@ module _ (words : List ℕ) (t : IsLinkTree words) where
   }
     where
       has : ZoneHas (Pages s f n b) s f
-      has = some_page s f n b z
+      has = some_page levels s f n b z
 
       no_lower : (r : ℕ) → IsReached words r → Spans (Pages s f n b) (place_at words r) → level_at words r < level_at words top → ⊥
       no_lower r q spans lower = ⊎_elim
@@ -56,11 +56,11 @@ module _ (words : List ℕ) (t : IsLinkTree words) where
           (λ (way : IsBelow words top r). let c = first_link words t top r o way in h.lowest c.0 c.1 (spans_up (Pages s f n b) (place_at words c.0) (place_at words r) c.2 spans))
           (below_or_same words t top r s f o q (omega arith) (h.spans.all s f has) (spans.all s f has))
 
-  pub one_top : (s f n : ℕ) (b : Bool) (a c : ℕ) → IsZone (Pages s f n b) → IsTopRow (Pages s f n b) words a → IsTopRow (Pages s f n b) words c → a ≡ c
+  pub one_top : (s f n : ℕ) (b : Bool) (a c : ℕ) → IsZone levels (Pages s f n b) → IsTopRow (Pages s f n b) words a → IsTopRow (Pages s f n b) words c → a ≡ c
   one_top s f n b a c z h k = ⊎_elim
       (λ (e : a ≡ c). e)
       (λ (way : IsBelow words c a). let less = (under words t c a k.reached way).level in let most = k.lowest a h.reached h.spans in absurd (omega arith))
-      (below_or_same words t c a s f k.reached h.reached (h.lowest c k.reached k.spans) (k.spans.all s f (some_page s f n b z)) (h.spans.all s f (some_page s f n b z)))
+      (below_or_same words t c a s f k.reached h.reached (h.lowest c k.reached k.spans) (k.spans.all s f (some_page levels s f n b z)) (h.spans.all s f (some_page levels s f n b z)))
 
   module _ (zone : Zone) (held : ℕ → Type 0) (top : ℕ) (h : IsClosed zone words held top) where
     top_reached : IsReached words top
@@ -99,7 +99,7 @@ module _ (words : List ℕ) (t : IsLinkTree words) where
 
   -- The cover
 
-  pub cover_pages : (s f n : ℕ) (b : Bool) (held : ℕ → Type 0) (top : ℕ) → IsZone (Pages s f n b) → IsClosed (Pages s f n b) words held top → IsTopped (Pages s f n b) words top
+  pub cover_pages : (s f n : ℕ) (b : Bool) (held : ℕ → Type 0) (top : ℕ) → IsZone levels (Pages s f n b) → IsClosed (Pages s f n b) words held top → IsTopped (Pages s f n b) words top
       → (r : ℕ) → held r ↔ IsInCover (Pages s f n b) words r
   cover_pages s f n b held top z h topped r = (λ has. (top, first, held_below (Pages s f n b) held top h r has), λ cover. back cover.0 cover.1 cover.2)
     where

@@ -5,7 +5,7 @@ use Rattle.std.proofs.lemmas.Bool.{cases_lt, false≢true}
 use mathlib.Core.Logic.{dite}
 use native.Mathlib.Decide.{ℕ_discrete}
 use Rattle.table_place.specs.declared.Place.{Place}
-use Rattle.table_place.specs.Place.{root, span_first, span_count, has_page}
+use Rattle.table_place.specs.Place.{root, entry_place, span_first, span_count, has_page}
 use Rattle.table_place.proofs.Spans.{span_pos, quotient_le, user_first}
 use Rattle.table_place.proofs.Tables.{in_range, to_range}
 use Rattle.table_place.proofs.Entries.{page_parts, page_from, page_in_span, span_has_page, first_page}
@@ -14,14 +14,14 @@ use Rattle.row_table.specs.Rows.{place_at}
 use Rattle.row_table.specs.Close.{IsReached}
 use Rattle.tree_lock.specs.declared.zone.Zone.{Zone}
 use Rattle.tree_lock.specs.declared.zone.Zone.TheVariants.{Pages, Space, Directory}
-use Rattle.tree_lock.specs.Zone.{child_place, ZoneHas, IsZone, HasAll, LiesIn, Meets, Spans}
+use Rattle.tree_lock.specs.Zone.{ZoneHas, IsZone, HasAll, LiesIn, Meets, Spans}
 use Rattle.tree_lock.specs.Linked.{Links, IsBelow, IsTopRow, IsInCover, HasOneTop, IsAbsent}
 use Rattle.tree_lock.proofs.LinkedTree.{IsLinkTree, level_at, one_under, under, first_link, low_level, top_level, below_or_same}
 use Rattle.tree_lock.proofs.LinkedCover.{some_page, is_top, one_top}
 
 -- Whether a span may cover a zone of pages
 
-module _ (s f n : ℕ) (b : Bool) (z : IsZone (Pages s f n b)) (p : Place) (low : p.level < 6) where
+module _ (levels s f n : ℕ) (b : Bool) (z : IsZone levels (Pages s f n b)) (p : Place) (low : p.level < 6) where
   last_page : ZoneHas (Pages s f n b) s (f + n - 1)
   last_page = let some = z.1 in (refl, omega arith, omega arith)
 
@@ -37,7 +37,7 @@ module _ (s f n : ℕ) (b : Bool) (z : IsZone (Pages s f n b)) (p : Place) (low 
     where
       go : (one end : Bool) → has_page p s f ≡ one → has_page p s (f + n - 1) ≡ end → HasAll (Pages s f n b) p ⊎ ¬ HasAll (Pages s f n b) p
       go true true h k = inl (all_between h k)
-      go false end h k = inr (λ all. false≢true (sym h ∙ all s f (some_page s f n b z)))
+      go false end h k = inr (λ all. false≢true (sym h ∙ all s f (some_page levels s f n b z)))
       go true false h k = inr (λ all. false≢true (sym k ∙ all s (f + n - 1) last_page))
 
   -- a span within the range lies in the zone
@@ -70,15 +70,15 @@ module _ (s f n : ℕ) (b : Bool) (z : IsZone (Pages s f n b)) (p : Place) (low 
       by_kind all true e = ⊎_elim
           (λ (lies : LiesIn p (Pages s f n b)). inr (λ spans. spans.greater e lies))
           (λ (out : ¬ LiesIn p (Pages s f n b)). inl (record { all = all; greater = λ strict lies. out lies }))
-          (lies_in_zone (page_parts p s f low (all s f (some_page s f n b z))).0)
+          (lies_in_zone (page_parts p s f low (all s f (some_page levels s f n b z))).0)
 
-module _ (words : List ℕ) (t : IsLinkTree words) where
+module _ {levels : ℕ} (words : List ℕ) (t : IsLinkTree levels words) where
   root_reached : IsReached words 0
   root_reached = (0, refl)
 
   -- The top of a zone of pages
 
-  module _ (s f n : ℕ) (b : Bool) (z : IsZone (Pages s f n b)) where
+  module _ (s f n : ℕ) (b : Bool) (z : IsZone levels (Pages s f n b)) where
     -- a row that one of so many entries links, and whose span may cover the zone
     abbrev Next : ℕ → ℕ → Type 0
     Next row count = (r : ℕ) × (l : Links words row r) × (l.index < count) × Spans (Pages s f n b) (place_at words r)
@@ -95,7 +95,7 @@ module _ (words : List ℕ) (t : IsLinkTree words) where
             (λ (spans : Spans (Pages s f n b) (place_at words child)). inl (child, l, refl, spans))
             (λ (no : ¬ Spans (Pages s f n b) (place_at words child)). inr (λ r m same spans.
             no (subst (λ (q : ℕ). Spans (Pages s f n b) (place_at words q)) (sym m.to_row ∙ ap (λ (j : ℕ). link_row (slice_index words (entry_at row j))) same) spans)))
-            (may_cover s f n b z (place_at words child) (omega arith))
+            (may_cover levels s f n b z (place_at words child) (omega arith))
 
     search_next : (row count : ℕ) → IsReached words row → count ≤ 512 → Next row count ⊎ ((r : ℕ) (l : Links words row r) → l.index < count → ¬ Spans (Pages s f n b) (place_at words r))
     search_next row zero o few = inr (λ r l less. absurd (omega arith))
@@ -123,13 +123,13 @@ module _ (words : List ℕ) (t : IsLinkTree words) where
     root_spans : Spans (Pages s f n b) (place_at words 0)
     root_spans = subst (Spans (Pages s f n b)) (sym t.top) (record {
       all = λ space page has. refl;
-      greater = λ strict lies. let low = (lies s 0 refl).1 in let least = user_first 4 f n z.2 in omega arith;
+      greater = λ strict lies. let low = (lies s 0 refl).1 in let least = user_first levels f n z.2 in omega arith;
     })
 
     pub has_top : (top : ℕ) × IsTopRow (Pages s f n b) words top
     has_top = go_down (level_at words 0) 0 (omega arith) root_reached root_spans
 
-  pub one_top_alone : (s f n : ℕ) (b : Bool) → IsZone (Pages s f n b) → HasOneTop (Pages s f n b) words
+  pub one_top_alone : (s f n : ℕ) (b : Bool) → IsZone levels (Pages s f n b) → HasOneTop (Pages s f n b) words
   one_top_alone s f n b z = let top = has_top s f n b z in record { top = top.0; is_top = top.1; only = λ row h. one_top words t s f n b row top.0 z h top.1 }
 
   -- The cover of an absent space
@@ -145,11 +145,11 @@ module _ (words : List ℕ) (t : IsLinkTree words) where
       no_way : IsBelow words 0 r → ⊥
       no_way way =
           let child = first_link words t 0 r root_reached way in let l = child.1 in
-          let place : place_at words child.0 ≡ root 4 l.index = (t.leads 0 child.0 root_reached l).1 ∙ ap (λ (p : Place). child_place p l.index) t.top in
-          let same : l.index ≡ s = (page_parts (root 4 l.index) s x (omega arith) (ap (λ (p : Place). has_page p s x) (sym place) ∙ child.2 s x h)).0 in
+          let place : place_at words child.0 ≡ root levels l.index = (t.leads 0 child.0 root_reached l).1 ∙ ap (λ (p : Place). entry_place levels p l.index) t.top in
+          let same : l.index ≡ s = (page_parts (root levels l.index) s x (omega arith) (ap (λ (p : Place). has_page p s x) (sym place) ∙ child.2 s x h)).0 in
           false≢true (sym absent ∙ (ap (λ (i : ℕ). is_link (slice_index words (entry_at 0 i))) (sym same) ∙ l.link))
 
-  pub absent_cover : (zone : Zone) (space page : ℕ) → IsZone zone → ZoneHas zone space page → IsAbsent words space → (row : ℕ) → IsInCover zone words row ↔ (row ≡ 0)
+  pub absent_cover : (zone : Zone) (space page : ℕ) → IsZone levels zone → ZoneHas zone space page → IsAbsent words space → (row : ℕ) → IsInCover zone words row ↔ (row ≡ 0)
   absent_cover (Pages s f n b) space page z has absent row = (λ cover. there cover.0 cover.1 cover.2, λ e. let top = has_top s f n b z in (top.0, top.1, inl (e ∙ sym (top_root top.0 top.1))))
     where
       top_root : (top : ℕ) → IsTopRow (Pages s f n b) words top → top ≡ 0
@@ -174,7 +174,7 @@ module _ (words : List ℕ) (t : IsLinkTree words) where
     pub has : has_page (place_at words row) space page ≡ true
     pub full : (r : ℕ) → IsReached words r → level_at words r ≤ level_at words row → has_page (place_at words r) space page ≡ true → IsInCover zone words r
 
-  pub full_to : (zone : Zone) (space page : ℕ) → IsZone zone → ZoneHas zone space page → (row : ℕ) × IsFullTo zone space page row
+  pub full_to : (zone : Zone) (space page : ℕ) → IsZone levels zone → ZoneHas zone space page → (row : ℕ) × IsFullTo zone space page row
   full_to (Pages s f n b) space page z has = let top = has_top s f n b z in let h = top.1 in (
     top.0,
     record {

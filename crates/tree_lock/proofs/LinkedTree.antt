@@ -3,21 +3,21 @@ use Rattle.std.proofs.Common.{◌≡◌, ◌≢◌, ℕ, zero, suc, ◌+◌, ◌
 use mathlib.Core.Logic.{dite}
 use native.Mathlib.Decide.{ℕ_discrete}
 use Rattle.table_place.specs.declared.Place.{Place}
-use Rattle.table_place.specs.Place.{directory, is_place, has_page}
+use Rattle.table_place.specs.Place.{directory, entry_place, is_place, has_page}
 use Rattle.table_place.proofs.Entries.{level_of, below_is, entry_page, same_span}
 use Rattle.row_table.specs.Plan.{Covers}
 use Rattle.row_table.specs.Rows.{place_at}
 use Rattle.row_table.specs.Close.{IsReached}
-use Rattle.tree_lock.specs.Zone.{child_place}
 use Rattle.tree_lock.specs.Linked.{Links, IsBelowIn, IsBelow}
 
 -- what the links make of the rows that they reach from row 0
-pub record IsLinkTree (words : List ℕ) : Type 0 where
+pub record IsLinkTree (levels : ℕ) (words : List ℕ) : Type 0 where
+  pub few : levels < 6
   pub top : place_at words 0 ≡ directory
   pub apart : (a b : ℕ) → IsReached words a → IsReached words b → place_at words a ≡ place_at words b → a ≡ b
   pub named : (r : ℕ) → r ≢ 0 → IsReached words r → (p : ℕ) × IsReached words p × Links words p r
-  pub leads : (p r : ℕ) → IsReached words p → (l : Links words p r) → (r ≢ 0) × (place_at words r ≡ child_place (place_at words p) l.index)
-  pub tables : (r : ℕ) → r ≢ 0 → IsReached words r → is_place 4 (place_at words r) ≡ true
+  pub leads : (p r : ℕ) → IsReached words p → (l : Links words p r) → (r ≢ 0) × (place_at words r ≡ entry_place levels (place_at words p) l.index)
+  pub tables : (r : ℕ) → r ≢ 0 → IsReached words r → is_place levels (place_at words r) ≡ true
 
 -- a reached row below another: its level is lower, and its span lies in the other's
 pub record IsUnder (words : List ℕ) (a b : ℕ) : Type 0 where
@@ -29,7 +29,7 @@ pub record IsUnder (words : List ℕ) (a b : ℕ) : Type 0 where
 abbrev pub level_at : List ℕ → ℕ → ℕ
 level_at words r = (place_at words r).level
 
-module _ (words : List ℕ) (t : IsLinkTree words) where
+module _ {levels : ℕ} (words : List ℕ) (t : IsLinkTree levels words) where
   pub reached_on : (p r : ℕ) → IsReached words p → Links words p r → IsReached words r
   reached_on p r o l = (suc o.0, (p, o.1, (l.index, l.inside, l.link, l.to_row)))
 
@@ -39,20 +39,20 @@ module _ (words : List ℕ) (t : IsLinkTree words) where
   pub top_level : level_at words 0 ≡ 6
   top_level = ap (λ (p : Place). p.level) t.top
 
-  pub low_level : (r : ℕ) → r ≢ 0 → IsReached words r → (1 ≤ level_at words r) × (level_at words r ≤ 4)
-  low_level r ne o = level_of 4 (place_at words r) (t.tables r ne o)
+  pub low_level : (r : ℕ) → r ≢ 0 → IsReached words r → (1 ≤ level_at words r) × (level_at words r ≤ levels)
+  low_level r ne o = level_of levels (place_at words r) (t.tables r ne o)
 
   -- a row of a level above all tables is row 0
-  pub root_by_level : (r : ℕ) → IsReached words r → 5 ≤ level_at words r → r ≡ 0
+  pub root_by_level : (r : ℕ) → IsReached words r → levels < level_at words r → r ≡ 0
   root_by_level r o high = dite (ℕ_discrete r 0) (λ e. e) (λ ne. let low = low_level r ne o in absurd (omega arith))
 
   -- One link
 
-  root_child : (r : ℕ) → Links words 0 r → level_at words r ≡ 4
-  root_child r l = ap (λ (p : Place). p.level) ((t.leads 0 r root_reached l).1 ∙ ap (λ (p : Place). child_place p l.index) t.top)
+  root_child : (r : ℕ) → Links words 0 r → level_at words r ≡ levels
+  root_child r l = ap (λ (p : Place). p.level) ((t.leads 0 r root_reached l).1 ∙ ap (λ (p : Place). entry_place levels p l.index) t.top)
 
   table_child : (p r : ℕ) → p ≢ 0 → IsReached words p → Links words p r → level_at words r ≡ level_at words p - 1
-  table_child p r ne o l = let low = low_level p ne o in ap (λ (x : Place). x.level) ((t.leads p r o l).1 ∙ below_is 4 (place_at words p) l.index (omega arith))
+  table_child p r ne o l = let low = low_level p ne o in ap (λ (x : Place). x.level) ((t.leads p r o l).1 ∙ below_is levels (place_at words p) l.index (omega arith))
 
   pub one_under : (p r : ℕ) → IsReached words p → Links words p r → IsUnder words p r
   one_under p r o l = record { reached = there; not_root = other; level = lower; covers = covers }
@@ -72,7 +72,7 @@ module _ (words : List ℕ) (t : IsLinkTree words) where
       covers s x h = dite (ℕ_discrete p 0)
           (λ e. ap (λ (r : ℕ). has_page (place_at words r) s x) e ∙ ap (λ (q : Place). has_page q s x) t.top)
           (λ ne. let at = low_level p ne o in let below = low_level r other there in let down = table_child p r ne o l in
-          entry_page 4 (place_at words p) l.index s x (omega arith) (omega arith) l.inside (ap (λ (q : Place). has_page q s x) (sym (t.leads p r o l).1) ∙ h))
+          entry_page levels (place_at words p) l.index s x (omega arith) (omega arith) l.inside (ap (λ (q : Place). has_page q s x) (sym (t.leads p r o l).1) ∙ h))
 
   -- Several links
 

@@ -7,29 +7,28 @@ use native.Mathlib.Decide.{ℕ_discrete}
 use Rattle.std.proofs.lemmas.Bool.{and_parts, eq-eqb, ltb-true, cases_lt, cond-false, false≢true}
 use Rattle.std.specs.Prelude.{nat_eq, nat_lt}
 use Rattle.table_place.specs.declared.Place.{Place}
-use Rattle.table_place.specs.Place.{span_first, span_count, has_page, is_place, is_directory, entry_place}
+use Rattle.table_place.specs.Place.{span_first, span_count, has_page, is_place, is_directory, directory, entry_place}
 use Rattle.table_place.specs.Range.{within}
 use Rattle.table_place.proofs.Spans.{span_pos, span_up, level_bits, quotient_low}
 use Rattle.table_place.proofs.Entries.{no_directory, page_parts, page_from, page_in_span, span_has_page}
 use Rattle.table_place.proofs.Tables.{in_range, to_range}
+use Rattle.tree_lock.specs.Zone.{IsTable}
 use Rattle.tree_lock.specs.Order.{IsSpelled, IsBefore, IsAround}
 
 -- ---- first pages
 
-pub first_below : (p : Place) → IsSpelled p → span_first p < 512 ^ 6
+pub first_below : (p : Place) → IsSpelled p → span_first p < 2 ^ 128
 first_below p s =
-    let less : p.prefix * 512 ^ p.level < 512 ^ (6 - p.level) * 512 ^ p.level = mul-lt-mul_of_pos_right s.prefix (span_pos p.level) in
-    subst (λ (n : ℕ). span_first p < n) (sym (pow-add 512 (6 - p.level) p.level) ∙ ap (λ (n : ℕ). 512 ^ n) (together p.level s.high)) less
+    let less : p.prefix * 512 ^ p.level < 2 ^ 45 * 512 ^ p.level = mul-lt-mul_of_pos_right s.prefix (span_pos p.level) in
+    let is : 2 ^ 45 * 512 ^ p.level ≡ 2 ^ (45 + 9 * p.level) = ap (λ (n : ℕ). 2 ^ 45 * n) (level_bits p.level) ∙ sym (pow-add 2 45 (9 * p.level)) in
+    let wide : 2 ^ (45 + 9 * p.level) ≤ 2 ^ 128 = pow_mono (most p.level s.level) in omega arith
   where
-    together : (level : ℕ) → level ≤ 6 → 6 - level + level ≡ 6
-    together level high = omega arith
+    most : (level : ℕ) → level < 2 ^ 3 → 45 + 9 * level ≤ 128
+    most level less = omega arith
 
 -- as it is computed
-pub first_shifted : (p : Place) → IsSpelled p → p.prefix * 2 ^ (9 * p.level) % 18446744073709551616 ≡ span_first p
-first_shifted p s =
-    let below = first_below p s in
-    let fits : span_first p < 18446744073709551616 = omega arith in
-    ap (λ (n : ℕ). p.prefix * n % 18446744073709551616) (sym (level_bits p.level)) ∙ mod-eq_of_lt fits
+pub first_shifted : (p : Place) → IsSpelled p → p.prefix * 2 ^ (9 * p.level) % 2 ^ 128 ≡ span_first p
+first_shifted p s = ap (λ (n : ℕ). p.prefix * n % 2 ^ 128) (sym (level_bits p.level)) ∙ mod-eq_of_lt (first_below p s)
 
 -- a position is known by its space, its first page and its level
 pub same_place : (a b : Place) → a.space ≡ b.space → span_first a ≡ span_first b → a.level ≡ b.level → a ≡ b
@@ -81,8 +80,31 @@ wider_level i j h = let more : 9 * i ≤ 9 * j = omega arith in let low = level_
 all_pages : (p : Place) (space page : ℕ) → p.level ≡ 6 → has_page p space page ≡ true
 all_pages p space page e = ap (λ (b : Bool). b || (nat_eq p.space space && nat_eq (page / 512 ^ p.level) p.prefix)) (eq-eqb p.level 6 e)
 
+-- a level has as many spans as its level below 6 says, and the directory is that of the space 0
+record IsRanked (p : Place) : Type 0 where
+  space : p.space < 64
+  high : p.level ≤ 6
+  prefix : p.prefix < 512 ^ (6 - p.level)
+  directory : p.level ≡ 6 → p.space ≡ 0
+
+ranked_table : (levels : ℕ) (p : Place) → levels < 6 → is_place levels p ≡ true → IsRanked p
+ranked_table levels p few h =
+    let outer = and_parts (nat_lt p.space 64) (within 1 levels p.level && nat_lt p.prefix (512 ^ (levels - p.level))) h in
+    let inner = and_parts (within 1 levels p.level) (nat_lt p.prefix (512 ^ (levels - p.level))) outer.1 in
+    let depth = in_range 1 levels p.level inner.0 in
+    let low = depth.0 in let high = depth.1 in
+    let wider = wider_level (levels - p.level) (6 - p.level) (fewer levels p.level few) in let prefix = ltb-true p.prefix (512 ^ (levels - p.level)) inner.1 in
+    record { space = ltb-true p.space 64 outer.0; high = omega arith; prefix = omega arith; directory = λ e. absurd (omega arith) }
+  where
+    fewer : (n k : ℕ) → n < 6 → n - k ≤ 6 - k
+    fewer n k less = omega arith
+
+ranked : (levels : ℕ) (p : Place) → levels < 6 → IsTable levels p → IsRanked p
+ranked levels p few (inl e) = subst IsRanked (sym e) (record { space = omega arith; high = omega arith; prefix = omega arith; directory = λ _. refl })
+ranked levels p few (inr h) = ranked_table levels p few h
+
 -- a span that has the pages of another and one more
-module _ (a b : Place) (sa : IsSpelled a) (sb : IsSpelled b) (around : IsAround a b) where
+module _ (a b : Place) (sa : IsRanked a) (sb : IsRanked b) (around : IsAround a b) where
   not_all : b.level ≢ 6
   not_all e = false≢true (sym around.has_not ∙ all_pages b around.space around.page e)
 
@@ -113,10 +135,16 @@ module _ (a b : Place) (sa : IsSpelled a) (sb : IsSpelled b) (around : IsAround 
           absurd (false≢true (sym around.has_not ∙ span_has_page b around.space around.page low_b (sym of_first.0 ∙ space)
           (to_range (span_first b) (span_count b) around.page (omega (arith, inside.0)) (omega (arith, inside.1, wider)))))
 
-  pub around_before : IsBefore a b
-  around_before = dite (ℕ_discrete a.level 6) from_top (λ ne. let high = sa.high in let high_b = sb.high in let other = not_all in from_table (omega arith) (omega arith))
+  ranked_before : IsBefore a b
+  ranked_before = dite (ℕ_discrete a.level 6) from_top (λ ne. let high = sa.high in let high_b = sb.high in let other = not_all in from_table (omega arith) (omega arith))
+
+pub around_before : (levels : ℕ) (a b : Place) → levels < 6 → IsTable levels a → IsTable levels b → IsAround a b → IsBefore a b
+around_before levels a b few one other around = ranked_before a b (ranked levels a few one) (ranked levels b few other) around
 
 -- ---- which positions can be spelled
+
+pub spelled_directory : IsSpelled directory
+spelled_directory = record { level = omega arith; space = omega arith; prefix = omega arith }
 
 pub spelled_table : (levels : ℕ) (p : Place) → levels < 6 → is_place levels p ≡ true → IsSpelled p
 spelled_table levels p few h =
@@ -124,10 +152,10 @@ spelled_table levels p few h =
     let inner = and_parts (within 1 levels p.level) (nat_lt p.prefix (512 ^ (levels - p.level))) outer.1 in
     let depth = in_range 1 levels p.level inner.0 in
     let low = depth.0 in let high = depth.1 in
-    let wider = wider_level (levels - p.level) (6 - p.level) (fewer levels p.level few) in let prefix = ltb-true p.prefix (512 ^ (levels - p.level)) inner.1 in
-    record { space = ltb-true p.space 64 outer.0; low = low; high = omega arith; prefix = omega arith; directory = λ e. absurd (omega arith) }
+    let wider : 512 ^ (levels - p.level) ≤ 512 ^ 5 = wider_level (levels - p.level) 5 (fewer levels p.level few) in let prefix = ltb-true p.prefix (512 ^ (levels - p.level)) inner.1 in
+    record { level = omega arith; space = ltb-true p.space 64 outer.0; prefix = omega arith }
   where
-    fewer : (n k : ℕ) → n < 6 → n - k ≤ 6 - k
+    fewer : (n k : ℕ) → n < 6 → n - k ≤ 5
     fewer n k less = omega arith
 
 -- ---- children

@@ -33,7 +33,7 @@ module _ {R B E : Type 0} where
   stands_inside v u free right e = subst (λ (y : PassView R B E). Stands y top) (sym e) (record { on = refl; holds_none = free.holds_none; no_rows = no_rows v right free.holds_none })
 
   -- the pass before, inside, where the descent ended, and outside again
-  module _ (v u w x : PassView R B E) (free : IsFree v) (right : IsRight v) (enters : u ≡ entered v) (kept : IsSameBut u w) (epoch : w.epoch ≡ u.epoch) (leaves : x ≡ left w) where
+  module _ (v u w x : PassView R B E) (free : IsFree v) (right : IsRight v) (enters : u ≡ entered v) (kept : IsSameBut u w) (epoch : w.epoch ≡ u.epoch) (leaves : x ≡ left w) (levels : ℕ) where
     same_all : IsSameBut v x
     same_all = same_on v w x (same_on v u w (subst (IsSameBut v) (sym enters) refl) kept) (subst (IsSameBut w) (sym leaves) refl)
 
@@ -49,10 +49,10 @@ module _ {R B E : Type 0} where
       other = subst (λ (n : ℕ). seat ≢ n) (ap (λ (z : PassView R B E). z.number) same) a.other;
     }
 
-    away_missed : (zone : Zone) (row word : ℕ) → IsMissed zone w row word → IsAway v x
+    away_missed : (zone : Zone) (row word : ℕ) → IsMissed levels zone w row word → IsAway v x
     away_missed zone row word m = away x same_all (ap (λ (y : PassView R B E). y.core.stand) leaves) epoch_all (ap (λ (y : PassView R B E). y.core.held) leaves ∙ m.holds_none) (ap (λ (y : PassView R B E). y.rows) leaves ∙ m.no_rows)
 
-    pub tried_busy : (zone : Zone) (row seat : ℕ) (list : List (HeldRow R)) → v.epoch < 2 ^ 62 → IsAnother w seat → IsMissed zone w row (held_by seat) → list ≡ [] → Tries zone v (Busy row seat) x list
+    pub tried_busy : (zone : Zone) (row seat : ℕ) (list : List (HeldRow R)) → v.epoch < 2 ^ 62 → IsAnother w seat → IsMissed levels zone w row (held_by seat) → list ≡ [] → Tries levels zone v (Busy row seat) x list
     tried_busy zone row seat list few a m empty = (
       few,
       away_missed zone row (held_by seat) m,
@@ -60,12 +60,12 @@ module _ {R B E : Type 0} where
         another = another_all w seat (same_on v u w (subst (IsSameBut v) (sym enters) refl) kept) a;
         place = m.place;
         last = subst (λ (y : PassView R B E). LastGrab y.findings row m.place (held_by seat)) (sym leaves) m.last;
-        where_it_is = inl (subst (λ (y : PassView R B E). IsReached zone y.findings row m.place) (sym leaves) m.reached);
+        where_it_is = inl (subst (λ (y : PassView R B E). IsReached levels zone y.findings row m.place) (sym leaves) m.reached);
       },
       empty,
     )
 
-    pub tried_stale : (zone : Zone) (row : ℕ) (list : List (HeldRow R)) → v.epoch < 2 ^ 62 → IsPages zone → IsMissed zone w row stale → list ≡ [] → Tries zone v (Stale row) x list
+    pub tried_stale : (zone : Zone) (row : ℕ) (list : List (HeldRow R)) → v.epoch < 2 ^ 62 → IsPages zone → IsMissed levels zone w row stale → list ≡ [] → Tries levels zone v (Stale row) x list
     tried_stale zone row list few pages m empty = (
       few,
       away_missed zone row stale m,
@@ -73,13 +73,13 @@ module _ {R B E : Type 0} where
         pages = pages;
         place = m.place;
         last = subst (λ (y : PassView R B E). LastGrab y.findings row m.place stale) (sym leaves) m.last;
-        reached = subst (λ (y : PassView R B E). IsReached zone y.findings row m.place) (sym leaves) m.reached;
+        reached = subst (λ (y : PassView R B E). IsReached levels zone y.findings row m.place) (sym leaves) m.reached;
       },
       empty,
     )
 
-    pub tried_all : (zone : Zone) (answer : Tried) (y : PassView R B E) (list : List (HeldRow R)) → v.epoch < 2 ^ 62 → TakesAll zone x answer y list → Tries zone v answer y list
-    tried_all zone Held y list few t = (few, record { same = same_on v x y same_all t.same; outside = t.outside; twice = t.epoch ∙ epoch_all; listed = t.listed; covers = t.covers })
+    pub tried_all : (zone : Zone) (answer : Tried) (y : PassView R B E) (list : List (HeldRow R)) → v.epoch < 2 ^ 62 → TakesAll levels zone x answer y list → Tries levels zone v answer y list
+    tried_all zone Held y list few t = (few, record { same = same_on v x y same_all t.same; outside = t.outside; twice = t.epoch ∙ epoch_all; listed = t.listed; covers = t.covers; in_tree = t.in_tree })
     tried_all zone (Busy row seat) y list few t = (
       few,
       away y (same_on v x y same_all t.0.same) t.0.outside (t.0.epoch ∙ epoch_all) t.0.holds_none t.0.no_rows,
@@ -90,8 +90,8 @@ module _ {R B E : Type 0} where
     tried_all zone Worn y list few t = absurd t
 
   -- the list of a cover may be given back as it is
-  pub released_after : (M : Meaning R B E) (zone : Zone) (v w : PassView R B E) (answer : Tried) (list : List (HeldRow R)) → TakesAll zone v answer w list → OnHeld answer (MayReleaseAll M list w)
-  released_after M zone v w Held list t = may_release M w list t.listed
-  released_after M zone v w (Busy row seat) list t = tt
-  released_after M zone v w (Stale row) list t = tt
-  released_after M zone v w Worn list t = tt
+  pub released_after : (M : Meaning R B E) (levels : ℕ) (zone : Zone) (v w : PassView R B E) (answer : Tried) (list : List (HeldRow R)) → TakesAll levels zone v answer w list → OnHeld answer (MayReleaseAll M list w)
+  released_after M levels zone v w Held list t = may_release levels M w list t.listed t.in_tree
+  released_after M levels zone v w (Busy row seat) list t = tt
+  released_after M levels zone v w (Stale row) list t = tt
+  released_after M levels zone v w Worn list t = tt

@@ -2,7 +2,6 @@ pub mod Order
 pub mod Held
 pub mod Lends
 pub mod Release
-pub mod Blank
 pub mod Zone
 pub mod Reached
 pub mod Covers
@@ -13,4 +12,3 @@ pub mod Descents
 pub mod Stages
 pub mod Covered
 pub mod Waits
-pub mod Spare

@@ -15,14 +15,15 @@ use Rattle.walk_core.specs.Words.{entry_at, is_link, link_row}
 use Rattle.walk_core.specs.Lists.{Has}
 use Rattle.row_table.specs.declared.view.PassView.{PassView}
 use Rattle.row_table.specs.Rows.{place_at}
-use Rattle.row_table.specs.Rule.{Table}
+use Rattle.row_layout.specs.declared.places.Layout.{Layout}
+use Rattle.row_table.specs.Rule.{Table, levels_of}
 use Rattle.row_table.specs.Close.{IsReached}
 use Rattle.tree_lock.specs.declared.zone.Zone.{Zone}
 use Rattle.tree_lock.specs.declared.zone.Zone.TheVariants.{Pages, Space, Directory}
 use Rattle.tree_lock.specs.declared.held.HeldRow.{HeldRow}
 use Rattle.tree_lock.specs.Held.{row_numbers}
 use Rattle.tree_lock.specs.Zone.{ZoneHas, IsZone, Meets, Spans}
-use Rattle.tree_lock.specs.Covers.{CoversZone, IsListOf}
+use Rattle.tree_lock.specs.Covers.{CoversZone, AreInTree, IsListOf}
 
 pub record Links (words : List ℕ) (row child : ℕ) : Type 0 where
   pub index : ℕ
@@ -57,13 +58,14 @@ pub record HasOneTop (zone : Zone) (words : List ℕ) : Type 0 where
 abbrev pub IsAbsent : List ℕ → ℕ → Type 0
 IsAbsent words space = is_link (slice_index words (entry_at 0 space)) ≡ false
 
-module _ {R B E : Type 0} where
+module _ {R B E : Type 0} (k : Layout) where
   pub record ShowsCover (zone : Zone) (v : PassView R B E) : Type 0 where
-    pub is_zone : IsZone zone
-    pub covers : CoversZone zone v
+    pub is_zone : IsZone (levels_of k) zone
+    pub covers : CoversZone (levels_of k) k.rows zone v.rows
+    pub in_tree : AreInTree v
 
   pub record HoldsCover (zone : Zone) (words : List ℕ) (v : PassView R B E) : Type 0 where
-    pub is_zone : IsZone zone
+    pub is_zone : IsZone (levels_of k) zone
     pub all : (row : ℕ) → IsInCover zone words row → Has v.core.held row
 
   abbrev pub ShownAreHeld : Table R B E → Type 0
@@ -72,7 +74,8 @@ module _ {R B E : Type 0} where
 
   abbrev pub ListsAreCovers : Table R B E → Type 0
   ListsAreCovers s = (seat : List (PassView R B E)) → Contains s.views seat → (v : PassView R B E) → Contains seat v
-      → (zone : Zone) (rows : List (HeldRow R)) → IsZone zone → CoversZone zone v → IsListOf v rows → (row : ℕ) → Has (row_numbers rows) row ↔ IsInCover zone s.words row
+      → (zone : Zone) → ShowsCover zone v
+      → (xs : List (HeldRow R)) → IsListOf v.core.held v.rows xs → (row : ℕ) → Has (row_numbers xs) row ↔ IsInCover zone s.words row
 
   abbrev pub CoversAreApart : Table R B E → Type 0
   CoversAreApart s = (one other : List (PassView R B E)) → Contains s.views one → Contains s.views other → (u v : PassView R B E) → Contains one u → Contains other v → u.number ≢ v.number

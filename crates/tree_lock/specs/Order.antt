@@ -1,18 +1,15 @@
 -- The order in which a pass takes positions of page tables.
---     IsSpelled      a position that a position word can spell: the directory's, or that of a table of a space
+--     IsSpelled      a position that a position word can spell: it has three bits for the level, six for the space and 45 for the prefix
 --     IsBefore      by space, then by the first page of the span, then higher levels first. So the directory is first of all
 --     IsAround      a span has each page of another and one more
 use Rattle.std.specs.Prelude.{◌≡◌, ℕ, ◌-◌, ◌^◌, ◌<◌, ◌≤◌, true, false}
 use Rattle.table_place.specs.declared.Place.{Place}
 use Rattle.table_place.specs.Place.{span_first, has_page}
 
--- a level has as many spans as its level below 6 says, and the directory is that of the space 0
 pub record IsSpelled (p : Place) : Type 0 where
-  pub space : p.space < 64
-  pub low : 1 ≤ p.level
-  pub high : p.level ≤ 6
-  pub prefix : p.prefix < 512 ^ (6 - p.level)
-  pub directory : p.level ≡ 6 → p.space ≡ 0
+  pub level : p.level < 2 ^ 3
+  pub space : p.space < 2 ^ 6
+  pub prefix : p.prefix < 2 ^ 45
 
 pub record IsBefore (a b : Place) : Type 0 where
   pub space : a.space ≤ b.space

@@ -1,4 +1,4 @@
--- What an attempt to cover a zone answers.
+-- What an attempt to cover a zone answers, where page tables have so many levels.
 --     during, IsSameBut      a view with another stand, epoch, held rows and findings;  two views differ in these alone
 --     IsFree, IsAway      a pass that is outside and holds nothing;  the pass after it came and went with nothing
 --     IsPages      a zone of pages
@@ -18,7 +18,7 @@ use Rattle.tree_lock.specs.declared.held.HeldRow.{HeldRow}
 use Rattle.tree_lock.specs.declared.attempt.Tried.{Tried}
 use Rattle.tree_lock.specs.declared.attempt.Tried.TheVariants.{Held, Busy, Stale, Worn}
 use Rattle.tree_lock.specs.Reached.{LastGrab, IsReached, IsBelow}
-use Rattle.tree_lock.specs.Covers.{CoversZone, IsListOf}
+use Rattle.tree_lock.specs.Covers.{CoversZone, AreInTree, IsListOf}
 
 abbrev pub OnHeld : Tried → Type 0 → Type 0
 OnHeld Held fact = fact
@@ -46,24 +46,26 @@ module _ {R B E : Type 0} where
   abbrev pub IsAway : PassView R B E → PassView R B E → Type 0
   IsAway v w = w ≡ record v { epoch = v.epoch + 2; findings = w.findings }
 
+module _ {R B E : Type 0} (levels : ℕ) where
   pub record IsBusy (zone : Zone) (v w : PassView R B E) (row seat : ℕ) : Type 0 where
     pub another : IsAnother v seat
     pub place : Place
     pub last : LastGrab w.findings row place (held_by seat)
-    pub where_it_is : IsReached zone w.findings row place ⊎ IsBelow zone w.findings row place
+    pub where_it_is : IsReached levels zone w.findings row place ⊎ IsBelow levels zone w.findings row place
 
   pub record IsStale (zone : Zone) (w : PassView R B E) (row : ℕ) : Type 0 where
     pub pages : IsPages zone
     pub place : Place
     pub last : LastGrab w.findings row place stale
-    pub reached : IsReached zone w.findings row place
+    pub reached : IsReached levels zone w.findings row place
 
   pub record IsHeld (zone : Zone) (v w : PassView R B E) (list : List (HeldRow R)) : Type 0 where
     pub same : IsSameBut v w
     pub outside : w.core.stand ≡ None
     pub twice : w.epoch ≡ v.epoch + 2
-    pub listed : IsListOf w list
-    pub covers : CoversZone zone w
+    pub listed : IsListOf w.core.held w.rows list
+    pub covers : CoversZone levels w.layout.rows zone w.rows
+    pub in_tree : AreInTree w
 
   abbrev pub Tries : Zone → PassView R B E → Tried → PassView R B E → List (HeldRow R) → Type 0
   Tries zone v Held w list = (v.epoch < 2 ^ 62) × IsHeld zone v w list

@@ -7,13 +7,14 @@ use Rattle.table_place.specs.declared.Place.{Place}
 use Rattle.tree_lock.specs.declared.zone.Zone.{Zone}
 use Rattle.tree_lock.specs.declared.ways.Way.{Way}
 use Rattle.tree_lock.specs.declared.ways.Way.TheVariants.{Down, Just, Here}
-use Rattle.tree_lock.specs.Zone.{child_place, IsStrict, HasAll, LiesIn, Spans, MeetsTwo}
+use Rattle.table_place.specs.Place.{entry_place}
+use Rattle.tree_lock.specs.Zone.{IsStrict, HasAll, LiesIn, Spans, MeetsTwo}
 use Rattle.tree_lock.specs.Tries.{IsPages}
 
-abbrev pub IsWay : Zone → Place → Way → Type 0
-IsWay zone place (Down index) = (index < 512) × IsPages zone × Spans zone (child_place place index)
-IsWay zone place (Just index) = (index < 512) × IsStrict zone × HasAll zone (child_place place index) × LiesIn (child_place place index) zone
-IsWay zone place Here = IsPages zone → MeetsTwo zone place
+abbrev pub IsWay : ℕ → Zone → Place → Way → Type 0
+IsWay levels zone place (Down index) = (index < 512) × IsPages zone × Spans zone (entry_place levels place index)
+IsWay levels zone place (Just index) = (index < 512) × IsStrict zone × HasAll zone (entry_place levels place index) × LiesIn (entry_place levels place index) zone
+IsWay levels zone place Here = IsPages zone → MeetsTwo levels zone place
 
 abbrev pub IsHere : Way → Type 0
 IsHere (Down index) = ⊥

@@ -1,5 +1,4 @@
--- The pages of zones, and the positions of tables that zones meet.
---     child_place      the position to which an entry leads, with four levels of page tables
+-- The pages of zones, and the positions of tables that zones meet, where page tables have so many levels.
 --     ZoneHas, IsStrict      a page is one of the zone's;  the zone is strict
 --     IsZone      a zone of a space that there is, and of user pages
 --     Meets, HasAll, LiesIn      a span has a page of the zone, or all of them;  the zone has each page of a span
@@ -12,9 +11,6 @@ use Rattle.table_place.specs.Place.{directory, entry_place, is_place, has_page, 
 use Rattle.tree_lock.specs.declared.zone.Zone.{Zone}
 use Rattle.tree_lock.specs.declared.zone.Zone.TheVariants.{Pages, Space, Directory}
 
-abbrev pub child_place : Place → ℕ → Place
-child_place p index = entry_place 4 p index
-
 abbrev pub ZoneHas : Zone → ℕ → ℕ → Type 0
 ZoneHas (Pages space first count strict) s page = (s ≡ space) × (first ≤ page) × (page < first + count)
 ZoneHas (Space space) s page = s ≡ space
@@ -25,10 +21,10 @@ IsStrict (Pages space first count strict) = strict ≡ true
 IsStrict (Space space) = ⊥
 IsStrict Directory = ⊥
 
-abbrev pub IsZone : Zone → Type 0
-IsZone (Pages space first count strict) = (space < 64) × (1 ≤ count) × (is_user_range 4 first count ≡ true)
-IsZone (Space space) = space < 64
-IsZone Directory = Unit {0}
+abbrev pub IsZone : ℕ → Zone → Type 0
+IsZone levels (Pages space first count strict) = (space < 64) × (1 ≤ count) × (is_user_range levels first count ≡ true)
+IsZone levels (Space space) = space < 64
+IsZone levels Directory = Unit {0}
 
 pub record Meets (zone : Zone) (p : Place) : Type 0 where
   pub space : ℕ
@@ -46,17 +42,17 @@ pub record Spans (zone : Zone) (p : Place) : Type 0 where
   pub all : HasAll zone p
   pub greater : IsStrict zone → ¬ LiesIn p zone
 
-pub record MeetsTwo (zone : Zone) (p : Place) : Type 0 where
+pub record MeetsTwo (levels : ℕ) (zone : Zone) (p : Place) : Type 0 where
   pub one : ℕ
   pub other : ℕ
   pub one_inside : one < 512
   pub other_inside : other < 512
   pub two : one ≢ other
-  pub meets_one : Meets zone (child_place p one)
-  pub meets_other : Meets zone (child_place p other)
+  pub meets_one : Meets zone (entry_place levels p one)
+  pub meets_other : Meets zone (entry_place levels p other)
 
-abbrev pub IsTable : Place → Type 0
-IsTable p = (p ≡ directory) ⊎ (is_place 4 p ≡ true)
+abbrev pub IsTable : ℕ → Place → Type 0
+IsTable levels p = (p ≡ directory) ⊎ (is_place levels p ≡ true)
 
-abbrev pub IsMet : Zone → Place → Type 0
-IsMet zone p = (p ≡ directory) ⊎ ((is_place 4 p ≡ true) × Meets zone p)
+abbrev pub IsMet : ℕ → Zone → Place → Type 0
+IsMet levels zone p = (p ≡ directory) ⊎ ((is_place levels p ≡ true) × Meets zone p)

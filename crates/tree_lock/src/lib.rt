@@ -2,19 +2,13 @@
 #![tactic(auto)]
 
 mod attempt;
-#[cfg(test)]
-mod attempt_tests;
 mod below;
 mod cover_laws;
 mod descent;
 mod held;
 mod order;
 mod release;
-#[cfg(test)]
-mod tests;
 mod waiting;
-#[cfg(test)]
-mod waiting_tests;
 mod ways;
 mod zone;
 

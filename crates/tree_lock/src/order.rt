@@ -2,16 +2,17 @@
 ghost use Rattle.std.specs.Prelude.{◌≡◌, ◌≢◌, ◌⊎◌, ℕ, ◌<◌, ◌≤◌, ◌↔◌, IsTrue, true};
 ghost use Rattle.table_place.specs.declared.Place.{Place};
 ghost use Rattle.table_place.specs.Place.{span_first, directory, root, entry_place, is_place};
+ghost use Rattle.tree_lock.specs.Zone.{IsTable};
 ghost use Rattle.tree_lock.specs.Order.{IsSpelled, IsBefore, IsAround};
 
 use table_place::Place;
 
 // The first page of a position's span.
-fn first_page(place: Place) -> u64
+fn first_page(place: Place) -> u128
     requires { IsSpelled place }
     ensures { result ≡ span_first place }
 {
-    place.prefix << (9 * place.level)
+    u128::from(place.prefix) << (9 * place.level)
 }
 
 /// Whether one position comes before another.
@@ -37,9 +38,9 @@ pub fn positions_are_in_one_order()
     ensures total { (a b : Place) → a ≢ b → IsBefore a b ⊎ IsBefore b a }
 {}
 
-/// A position is before each other one whose span lies in its own.
+/// A table's position, or the directory's, is before each other one whose span lies in its own.
 pub fn a_wider_span_is_before()
-    ensures { (a b : Place) → IsSpelled a → IsSpelled b → IsAround a b → IsBefore a b }
+    ensures { (levels : ℕ) (a b : Place) → levels < 6 → IsTable levels a → IsTable levels b → IsAround a b → IsBefore a b }
 {}
 
 /// A table comes before those to which its entries lead.

@@ -1,19 +1,13 @@
 //! Which entries of a row lead to positions that a zone meets.
 ghost use Rattle.std.specs.Prelude.{◌≡◌, ℕ, ◌+◌, ◌^◌, ◌<◌, ◌≤◌, true, false, MatchOption};
-ghost use Rattle.table_place.specs.Place.{is_place};
+ghost use Rattle.table_place.specs.Place.{is_place, entry_place};
 ghost use Rattle.walk_core.specs.Words.{is_link, link_row, link_generation};
-ghost use Rattle.tree_lock.specs.Zone.{child_place, IsZone, IsTable, IsMet, Meets, Spans};
+ghost use Rattle.tree_lock.specs.Zone.{IsZone, IsTable, IsMet, Meets, Spans};
 ghost use Rattle.tree_lock.specs.Ways.{IsWay, Cuts};
 
 use crate::zone::Zone;
 use pte_word::{Pte, entries_are_those_of_the_core, read_word};
 use table_place::Place;
-
-/// How many levels the page tables of a space have.
-const LEVELS: u8 = 4;
-
-/// The level of the directory.
-const DIRECTORY: u8 = 6;
 
 /// How a descent goes on from a row whose span has the zone.
 #[derive(Clone, Copy)]
@@ -55,7 +49,7 @@ pub(crate) fn link_of(word: u64) -> Option<Link>
 
 /// How many pages the span of a table of this level has.
 fn span_pages(level: u8) -> u64
-    requires { level < 4 }
+    requires { level < 5 }
     ensures value { result ≡ 512 ^ level }
     ensures some { 0 < result }
 {
@@ -63,21 +57,23 @@ fn span_pages(level: u8) -> u64
         0 => 1,
         1 => 512,
         2 => 262_144,
-        _ => 134_217_728,
+        3 => 134_217_728,
+        _ => 68_719_476_736,
     }
 }
 
-/// The position to which an entry leads.
-pub(crate) fn place_below(place: Place, index: u32) -> Place
+/// The position to which an entry leads. The directory alone is above the roots.
+pub(crate) fn place_below(levels: u8, place: Place, index: u32) -> Place
+    requires levels { levels < 6 }
     requires inside { index < 512 }
-    requires table { IsTable place }
-    requires child { is_place 4 (child_place place index) ≡ true }
-    ensures { result ≡ child_place place index }
+    requires table { IsTable levels place }
+    requires child { is_place levels (entry_place levels place index) ≡ true }
+    ensures { result ≡ entry_place levels place index }
 {
-    if place.level == DIRECTORY {
+    if place.level > levels {
         return Place {
             space: index as u8,
-            level: LEVELS,
+            level: levels,
             prefix: 0,
         };
     }
@@ -89,11 +85,12 @@ pub(crate) fn place_below(place: Place, index: u32) -> Place
 }
 
 /// How a descent to the zone goes on from a position that has the zone in its span.
-pub(crate) fn way_on(zone: &Zone, place: Place) -> Way
-    requires zone { IsZone zone.now }
-    requires table { IsTable place }
+pub(crate) fn way_on(levels: u8, zone: &Zone, place: Place) -> Way
+    requires levels { levels < 6 }
+    requires zone { IsZone levels zone.now }
+    requires table { IsTable levels place }
     requires spans { Spans zone.now place }
-    ensures { IsWay zone.now place result }
+    ensures { IsWay levels zone.now place result }
 {
     let Zone::Pages {
         space,
@@ -104,7 +101,7 @@ pub(crate) fn way_on(zone: &Zone, place: Place) -> Way
     else {
         return Way::Here;
     };
-    if place.level == DIRECTORY {
+    if place.level > levels {
         return Way::Down(u32::from(space));
     }
     let pages = span_pages(place.level - 1);
@@ -123,8 +120,8 @@ pub(crate) fn way_on(zone: &Zone, place: Place) -> Way
 // The entries of a table below the directory that lead to pages of a range.
 fn met_by_pages(first: u64, count: u64, place: Place) -> Entries
     requires some { 1 ≤ count }
-    requires few { first + count < 2 ^ 35 }
-    requires level { (1 ≤ place.level) × (place.level < 5) }
+    requires few { first + count < 2 ^ 45 }
+    requires level { (1 ≤ place.level) × (place.level < 6) }
     requires prefix { place.prefix < 2 ^ 36 }
     ensures { Cuts first count place result.first result.end }
 {
@@ -151,16 +148,17 @@ fn met_by_space(space: u8) -> Entries
 }
 
 /// The entries that lead to positions which the zone meets.
-pub(crate) fn met(zone: &Zone, place: Place) -> Entries
-    requires zone { IsZone zone.now }
-    requires met { IsMet zone.now place }
-    ensures inside { (index : ℕ) → result.first ≤ index → index < result.end → (index < 512) × Meets zone.now (child_place place index) }
-    ensures all { (index : ℕ) → index < 512 → Meets zone.now (child_place place index) → (result.first ≤ index) × (index < result.end) }
+pub(crate) fn met(levels: u8, zone: &Zone, place: Place) -> Entries
+    requires levels { levels < 6 }
+    requires zone { IsZone levels zone.now }
+    requires met { IsMet levels zone.now place }
+    ensures inside { (index : ℕ) → result.first ≤ index → index < result.end → (index < 512) × Meets zone.now (entry_place levels place index) }
+    ensures all { (index : ℕ) → index < 512 → Meets zone.now (entry_place levels place index) → (result.first ≤ index) × (index < result.end) }
 {
     match *zone {
         Zone::Directory => Entries { first: 0, end: 0 },
         Zone::Space { space } => {
-            if place.level == DIRECTORY {
+            if place.level > levels {
                 met_by_space(space)
             } else {
                 Entries { first: 0, end: 512 }
@@ -172,7 +170,7 @@ pub(crate) fn met(zone: &Zone, place: Place) -> Entries
             count,
             ..
         } => {
-            if place.level == DIRECTORY {
+            if place.level > levels {
                 met_by_space(space)
             } else {
                 met_by_pages(first, count, place)

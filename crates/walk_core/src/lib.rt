@@ -2,20 +2,20 @@
 #![tactic(auto)]
 
 mod event;
+mod gives;
 mod guards;
 mod laws;
 mod lists;
 mod machine;
 mod pass;
 mod room;
+mod samples;
 mod state;
 mod steps;
-#[cfg(test)]
-mod tests;
 mod words;
 
 pub use event::{Event, SetPart};
-pub use laws::every_core_is_good;
+pub use laws::{every_core_is_good, no_swept_row_is_read};
 pub use lists::{PutList, PutRow, RowList};
 pub use machine::Core;
 pub use pass::{GrantedRow, PassCore, SampleBounds, Stand, UnlinkedRow};

@@ -1,6 +1,5 @@
-use Rattle.std.proofs.Common.{◌≡◌, ◌≢◌, ◌<◌, ℕ, List, [], ◌∷◌, ◌++◌, length, codes, refl, sym, ap, ◌∙◌, arith}
-use Rattle.corten_base.specs.declared.calls.TxnOp.{TxnOp}
-use Rattle.mm_script.specs.CallLine.{ops_words, AreOps}
+use Rattle.std.proofs.Common.{◌≡◌, ◌≢◌, ◌<◌, ℕ, List, ◌∷◌, ◌++◌, length, codes, sym, ap, ◌∙◌, arith}
+use Rattle.mm_script.specs.CallLine.{ops_words}
 use Rattle.mm_script.proofs.OneOp.{no_first, no_further, one_more, AreOps-push}
 use Rattle.mm_script.proofs.ops.next_ops.Goals as goal
 

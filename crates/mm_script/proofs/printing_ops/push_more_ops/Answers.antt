@@ -1,7 +1,6 @@
 use Rattle.std.proofs.Common.{◌≡◌, ℕ, List, [], ◌∷◌, ◌++◌, take, length, codes, ap, ◌∙◌}
 use Rattle.std.specs.declared.alloc.AllocError.{AllocError}
 use Rattle.std.proofs.lemmas.List.{append_assoc}
-use Rattle.corten_base.specs.declared.calls.TxnOp.{TxnOp}
 use Rattle.text_words.specs.Layout.{joined}
 use Rattle.mm_script.specs.CallLine.{more_ops_words, spaced}
 use Rattle.mm_script.proofs.OpLines.{printed_next_op, front_stays, on_err}

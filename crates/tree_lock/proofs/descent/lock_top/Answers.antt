@@ -10,8 +10,8 @@ loop-index-init g c = record {
   kept = refl;
   epoch = refl;
   stands = c.requires.stands;
-  over = over_directory c.args.zone.now c.requires.zone;
+  over = over_directory c.args.levels c.requires.levels.0 c.args.zone.now c.requires.zone;
 }
 
 pub take_last-requires-clause-saw : goal.take_last-requires-clause-saw
-take_last-requires-clause-saw g c κs within = saw_none (view_of c.loop-index.pass) (view_of c.go_on.new.pass) c.loop-index.at c.in-Down.index c.in-None.ensures.looks
+take_last-requires-clause-saw g c κs within = saw_none c.args.levels (view_of c.loop-index.pass) (view_of c.go_on.new.pass) c.loop-index.at c.in-Down.index c.in-None.ensures.looks

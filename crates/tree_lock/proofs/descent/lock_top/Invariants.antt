@@ -11,7 +11,7 @@ invariant-loop-index g l = record {
   kept : IsSameBut (view_of l.fn.pass) (view_of l.pass);
   epoch : (view_of l.pass).epoch ≡ (view_of l.fn.pass).epoch;
   stands : Stands (view_of l.pass) l.at;
-  over : IsOver l.zone l.at.row l.at.place;
+  over : IsOver l.levels l.zone l.at.row l.at.place;
 }
 
 abbrev pub decreases-loop-index : goal.decreases-loop-index

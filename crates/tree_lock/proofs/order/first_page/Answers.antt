@@ -1,5 +1,6 @@
+use Rattle.std.proofs.Common.{ℕ, ◌*◌, ◌%◌, ◌^◌, ap, ◌∙◌}
 use Rattle.tree_lock.proofs.Positions.{first_shifted}
 use Rattle.tree_lock.proofs.order.first_page.Goals as goal
 
 pub returns : goal.returns
-returns c = first_shifted c.args.place c.requires
+returns c = ap (λ (n : ℕ). n * 2 ^ (9 * c.args.place.level) % 2 ^ 128) c.from.ensures ∙ first_shifted c.args.place c.requires

@@ -11,5 +11,5 @@ invariant-loop-index g l = record {
   table : table_of l.pass ≡ table_of l.fn.pass;
   kit : kit_of l.pass ≡ kit_of l.fn.pass;
   room : l.held.room ≡ l.fn.held.room;
-  walked : Walked l.zone l.at (view_of l.fn.pass) l.fn.held.rows (view_of l.pass) l.held.rows l.index;
+  walked : Walked l.levels l.zone l.at (view_of l.fn.pass) l.fn.held.rows (view_of l.pass) l.held.rows l.index;
 }

@@ -1,5 +1,5 @@
 use Rattle.row_table.specs.Passes.{view_of}
-use Rattle.tree_lock.proofs.Retries.{list_since, there_since, at_since, fresh_since}
+use Rattle.tree_lock.proofs.Retries.{list_since, there_since, at_since, fresh_since, levels_since}
 use Rattle.tree_lock.proofs.waiting.wait_child.Goals as goal
 
 pub take_child-requires-clause-list : goal.take_child-requires-clause-list
@@ -12,4 +12,7 @@ pub take_child-requires-clause-at : goal.take_child-requires-clause-at
 take_child-requires-clause-at g c κs within = let i = c.loop.invariant in at_since _ (view_of c.loop.pass) i.found.0 i.found.1 c.args.at.row c.args.at.place c.requires.at
 
 pub take_child-requires-clause-fresh : goal.take_child-requires-clause-fresh
-take_child-requires-clause-fresh g c κs within = let i = c.loop.invariant in fresh_since _ (view_of c.loop.pass) i.found.0 i.found.1 c.args.at.place c.args.index c.requires.fresh
+take_child-requires-clause-fresh g c κs within = let i = c.loop.invariant in fresh_since _ (view_of c.loop.pass) i.found.0 i.found.1 c.args.levels c.args.at.place c.args.index c.requires.fresh
+
+pub take_child-requires-clause-levels : goal.take_child-requires-clause-levels
+take_child-requires-clause-levels g c κs within = let i = c.loop.invariant in levels_since _ (view_of c.loop.pass) i.found.0 i.found.1 c.args.levels c.requires.levels

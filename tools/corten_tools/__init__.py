@@ -1,0 +1,1 @@
+"""What the programs beside this folder share. Nothing proved depends on it."""
