@@ -6,3 +6,4 @@ pub mod Bits
 pub mod Tally
 pub mod Levels
 pub mod Missing
+pub mod Removed

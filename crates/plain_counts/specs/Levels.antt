@@ -1,11 +1,17 @@
 -- The tables of one level of a space.
 --     tables_of      those of a range of prefixes
 --     is_in_level      whether a table is one of them
+--     first_of      the first place of a space
+--     is_between, IsUpTo      whether a place is from one on and before another;  whether two places are in order
 --     is_elsewhere      whether a table is one of another space
-use Rattle.std.specs.Prelude.{ℕ, Bool, not, ◌&&◌, List, map, nat_eq}
+use Rattle.std.specs.Prelude.{◌≡◌, ℕ, Bool, false, not, ◌&&◌, List, map, nat_eq}
 use Rattle.std.specs.List.{range_with_len}
+use Rattle.std.specs.Ordering.{is_gt}
+use Rattle.std.specs.declared.ops.Bound.TheVariants.{Included, Excluded}
+use Rattle.std.specs.BTreeMap.Range.{range_contains}
 use Rattle.table_place.specs.declared.Place.{Place}
 use Rattle.table_place.specs.Range.{within}
+use Rattle.table_place.specs.Place.{place_cmp}
 
 abbrev pub tables_of : ℕ → ℕ → ℕ → ℕ → List Place
 tables_of space level first count = map (λ prefix. record { space = space; level = level; prefix = prefix }) (range_with_len first count)
@@ -15,3 +21,13 @@ is_in_level space level first count p = nat_eq p.space space && (nat_eq p.level 
 
 abbrev pub is_elsewhere : ℕ → Place → Bool
 is_elsewhere space p = not (nat_eq p.space space)
+
+abbrev pub first_of : ℕ → Place
+first_of space = record { space = space; level = 0; prefix = 0 }
+
+-- in the order of places
+abbrev pub is_between : Place → Place → Place → Bool
+is_between low high p = range_contains place_cmp (Included low) (Excluded high) p
+
+abbrev pub IsUpTo : Place → Place → Type 0
+IsUpTo low high = is_gt (place_cmp low high) ≡ false

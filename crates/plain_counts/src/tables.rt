@@ -1,10 +1,11 @@
 //! The page tables that are there, by their places.
-ghost use Rattle.std.specs.Prelude.{◌≡◌, ℕ, ◌+◌, ◌-◌, ◌<◌, ◌≤◌, ◌^◌, ◌++◌, not, take, filter, sum_by, OnOk, OnErr, IfOk};
+ghost use Rattle.std.specs.Prelude.{◌≡◌, ℕ, ◌+◌, ◌-◌, ◌<◌, ◌≤◌, ◌^◌, ◌++◌, true, false, not, ◌&&◌, nat_eq, take, filter, sum_by, OnOk, OnErr, IfOk, IfSome, IfNone};
 ghost use Rattle.std.specs.List.{range_with_len};
 ghost use Rattle.std.specs.FinSet as set;
 ghost use Rattle.table_place.specs.Place.{above, is_above, is_inside, prefix_first, prefix_count};
 ghost use Rattle.page_map.specs.Tables.{need};
-ghost use Rattle.plain_counts.specs.Levels.{tables_of, is_in_level, is_elsewhere};
+ghost use Rattle.table_place.specs.declared.Place.{Place};
+ghost use Rattle.plain_counts.specs.Levels.{tables_of, is_in_level, is_elsewhere, is_between, first_of, IsUpTo};
 
 use std::alloc::{AllocError, Global};
 use std::collections::BTreeSet;
@@ -83,6 +84,17 @@ fn is_covered(p: &Place, space: u8, first: u64, count: u64) -> bool
     let pages = u128::from(span(p.level));
     let start = u128::from(p.prefix) * pages;
     u128::from(first) <= start && start + pages <= u128::from(first) + u128::from(count)
+}
+
+/// The first place of a space.
+fn first_of(space: u8) -> Place
+    ensures { result ≡ first_of space }
+{
+    Place {
+        space,
+        level: 0,
+        prefix: 0,
+    }
 }
 
 impl Tables {
@@ -256,17 +268,77 @@ impl Tables {
         }
     }
 
-    /// Removes the tables whose spans lie in a range of pages.
+    /// The first table from one place on and before another.
+    fn first_between(&self, low: Place, high: Place) -> Option<Place>
+        requires { IsUpTo low high }
+        ensures some { IfSome result (λ p. (set.contains self.now p ≡ true) × (is_between low high p ≡ true)) }
+        ensures none { IfNone result ((p : Place) → is_between low high p ≡ true → set.contains self.now p ≡ false) }
+    {
+        match self.places.range(low..high).next() {
+            Some(place) => Some(*place),
+            None => None,
+        }
+    }
+
+    /// Removes the tables from one place on and before another, in the time of those that are there.
+    fn remove_between(&mut self, low: Place, high: Place)
+        requires { IsUpTo low high }
+        ensures { self.new ≡ set.retain self.old (λ p. not (is_between low high p)) }
+    {
+        while let Some(place) = self.first_between(low, high) {
+            self.remove(&place);
+        }
+    }
+
+    /// Removes the tables of one level whose spans lie in a range of pages.
+    fn remove_covered(&mut self, space: u8, level: u8, first: u64, end: u64)
+        requires level { level < 4 }
+        requires range { first ≤ end }
+        ensures { self.new ≡ set.retain self.old (λ p. not (nat_eq p.level level && is_inside 4 space first (end - first) p)) }
+    {
+        let pages = span(level);
+        let start = first.div_ceil(pages);
+        let low = Place {
+            space,
+            level,
+            prefix: start,
+        };
+        let high = Place {
+            space,
+            level,
+            prefix: start.max(end / pages),
+        };
+        self.remove_between(low, high);
+    }
+
+    /// Removes the tables whose spans lie in a range of pages, in the time of those.
     pub fn remove_inside(&mut self, space: u8, first: u64, count: u64)
         ensures { self.new ≡ set.retain self.old (λ p. not (is_inside 4 space first count p)) }
     {
-        self.places.retain(|p| !is_covered(p, space, first, count));
+        match first.checked_add(count) {
+            Some(end) => self.remove_up_to(space, first, end),
+            // No range of pages of a space reaches so far.
+            None => self.places.retain(|p| !is_covered(p, space, first, count)),
+        }
     }
 
-    /// Removes the tables of a space.
+    /// Removes the tables whose spans lie in the pages from one on and before another.
+    fn remove_up_to(&mut self, space: u8, first: u64, end: u64)
+        requires { first ≤ end }
+        ensures { self.new ≡ set.retain self.old (λ p. not (is_inside 4 space first (end - first) p)) }
+    {
+        for level in 0..4 {
+            self.remove_covered(space, level, first, end);
+        }
+    }
+
+    /// Removes the tables of a space, in the time of those.
     pub fn remove_space(&mut self, space: u8)
         ensures { self.new ≡ set.retain self.old (is_elsewhere space) }
     {
-        self.places.retain(|p| p.space != space);
+        match space.checked_add(1) {
+            Some(next) => self.remove_between(first_of(space), first_of(next)),
+            None => self.places.retain(|p| p.space != space),
+        }
     }
 }
