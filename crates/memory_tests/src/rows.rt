@@ -38,6 +38,7 @@ fn places_of_the_greatest_layout(rt: HostRuntime) {
     let layout = Layout {
         rows: 1024,
         passes: 8,
+        levels: 5,
     };
     assert_eq!(rt; layout.entry(1, 511), 1026);
     assert_eq!(rt;

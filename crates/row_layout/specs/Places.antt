@@ -7,7 +7,7 @@ use Rattle.std.specs.Prelude.{ℕ, ◌+◌, ◌*◌, ◌<◌, ◌≤◌}
 use Rattle.row_layout.specs.declared.places.Layout.{Layout}
 
 abbrev pub IsLayout : Layout → Type 0
-IsLayout l = (2 ≤ l.rows) × (l.rows ≤ 1024) × (1 ≤ l.passes) × (l.passes ≤ 8)
+IsLayout l = (2 ≤ l.rows) × (l.rows ≤ 1024) × (1 ≤ l.passes) × (l.passes ≤ 8) × (4 ≤ l.levels) × (l.levels ≤ 5)
 
 pub data Word : Type 0 where
   entry_word : ℕ → ℕ → Word

@@ -11,7 +11,8 @@ const POSITION: u32 = 513;
 
 const GENERATION: u32 = 514;
 
-/// How many rows and passes there are: 2 to 1,024 rows and 1 to 8 passes.
+/// How many rows and passes there are, and how many levels the page tables of a space have: 2 to 1,024 rows, 1 to 8 passes, and 4 or 5
+/// levels.
 ///
 /// A row has 512 entry words, a lock word, a position word and a generation word. The epoch words of the
 /// passes stand behind all rows, and the book's lock word behind them.
@@ -19,6 +20,7 @@ const GENERATION: u32 = 514;
 pub struct Layout {
     pub rows: u32,
     pub passes: u8,
+    pub levels: u8,
 }
 
 impl Layout {

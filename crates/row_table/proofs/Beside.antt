@@ -21,7 +21,7 @@ use Rattle.row_table.specs.declared.view.PassView.{PassView}
 use Rattle.row_table.specs.declared.view.HandRow.{HandRow}
 use Rattle.row_table.specs.Plan.{Meaning}
 use Rattle.row_table.specs.Rows.{lock_of, generation_of}
-use Rattle.row_table.specs.Rule.{Homes, Table, levels_of, row_part, hand_part, core_of, Contents, Knows, Holds}
+use Rattle.row_table.specs.Rule.{Homes, Table, row_part, hand_part, core_of, Contents, Knows, Holds}
 use Rattle.row_table.proofs.Shown.{ShowsSame, shows_same}
 use Rattle.row_table.proofs.Hands.{rows_granted}
 use Rattle.row_table.proofs.Frames.{RowHome, words_after, moved, home_of, home_moves}
@@ -127,7 +127,7 @@ module _ {R B E : Type 0} (M : Meaning R B E) where
 
   pub moved_beside : (k : Layout) (first : B) (s : Table R B E) (h : Holds M k first s) (id : ℕ) (v w : PassView R B E) (e : Event) (r j n : ℕ)
       → get_elem? s.views id ≡ some (v ∷ []) → pass_of e ≡ v.number → w.number ≡ v.number → Guard (core_of M k s.words h.passes h.free h.book) v.core e
-      → w.core ≡ pass_after (levels_of k) e (get_or s.words (place_of k.rows k.passes e) 0) v.core
+      → w.core ≡ pass_after k.levels e (get_or s.words (place_of k.rows k.passes e) 0) v.core
       → free_after e h.free ≡ h.free → M.limbo h.book ≡ limbo_after e (M.limbo h.book)
       → words_after k s.words e ≡ set s.words (515 * r + j) n → r < k.rows → j < 515 → j ≢ 512
       → lock_of s.words r ≢ 0 → generation_of (set s.words (515 * r + j) n) r < M.next_generation h.book → NoOther h.passes v.number r

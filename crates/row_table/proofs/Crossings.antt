@@ -12,11 +12,10 @@ use Rattle.row_layout.specs.declared.places.Layout.{Layout}
 use Rattle.row_table.specs.declared.view.PassView.{PassView}
 use Rattle.row_table.specs.Plan.{Meaning}
 use Rattle.row_table.specs.Rows.{lock_of, generation_of}
-use Rattle.row_table.specs.Rule.{Homes, Seat, Table, levels_of, view, IsOne, core_of, Contents, Knows, Holds}
-use Rattle.row_table.specs.Crossings.{entered, left, CrossTells, EpochTells}
-use Rattle.row_table.proofs.Known.{right_now}
+use Rattle.row_table.specs.Rule.{Homes, Seat, Table, view, IsOne, core_of, Contents, Knows, Holds}
+use Rattle.row_table.specs.Crossings.{entered, left, CrossTells}
 use Rattle.row_table.proofs.Shown.{ShowsSame, shows_same}
-use Rattle.row_table.proofs.Frames.{RowHome, words_after, moved, unchanged, home_of, home_moves}
+use Rattle.row_table.proofs.Frames.{RowHome, words_after, moved, home_of, home_moves}
 
 module _ {R B E : Type 0} (M : Meaning R B E) where
   module _ (k : Layout) (ws : List ℕ) (n x : ℕ) (less : n < k.passes) (few : k.passes ≤ 8) where
@@ -62,7 +61,7 @@ module _ {R B E : Type 0} (M : Meaning R B E) where
   crosses : (k : Layout) (first : B) (slots id : ℕ) (m : Seat R B E) (n : ℕ) (e : ℕ → Event) (f : PassView R B E → PassView R B E) → IsOne n m
       → ((p : ℕ) → pass_of (e p) ≡ p) → ((p : ℕ) → place_of k.rows k.passes (e p) ≡ epoch_at k.rows p) → ((p y : ℕ) → number_after (e p) y ≡ (y + 1) % 2 ^ 64)
       → ((p : ℕ) (free : List ℕ) → free_after (e p) free ≡ free) → ((p : ℕ) (limbo : List _) → limbo_after (e p) limbo ≡ limbo)
-      → ((f (view m)).number ≡ (view m).number) → ((p y : ℕ) → (f (view m)).core ≡ pass_after (levels_of k) (e p) y (view m).core)
+      → ((f (view m)).number ≡ (view m).number) → ((p y : ℕ) → (f (view m)).core ≡ pass_after k.levels (e p) y (view m).core)
       → ((s : Table R B E) (h : Holds M k first s) → get_or s.words (epoch_at k.rows (view m).number) 0 ≡ (view m).epoch → Guard (core_of M k s.words h.passes h.free h.book) (view m).core (e (view m).number))
       → ((b : B) (ws : List ℕ) → get_or ws (epoch_at k.rows (view m).number) 0 ≡ (view m).epoch + 1 → Knows M k first ws b (record (view m) { epoch = (view m).epoch + 1 }) → Knows M k first ws b (f (view m)))
       → Allows (Holds M k first) slots id m (epoch_at k.rows n) (λ y. (y + 1) % 2 ^ 64) (CrossTells f m)
@@ -113,21 +112,6 @@ module _ {R B E : Type 0} (M : Meaning R B E) where
       (λ s h is. inside)
       (λ b ws is old. record { there = old.there; layout = old.layout; epoch = old.epoch; held = old.held; rows = λ y i. let o = old.rows y i in record { there = o.there; shown = o.shown; place = o.place; generation = o.generation; agrees = o.agrees }; granted = old.granted; hand = old.hand; vacant = old.vacant; placed = old.placed; found = old.found; origin = old.origin; seen = old.seen; mine = old.mine })
 
-  -- a load of the own epoch word
-  pub reads_epoch : (k : Layout) (first : B) (slots id : ℕ) (m : Seat R B E) (n : ℕ) → IsOne n m → Allows (Holds M k first) slots id m (epoch_at k.rows n) (λ y. y) (EpochTells m)
-  reads_epoch k first slots id m n one s h long me _ =
-      let v : PassView R B E = view m in
-      let me' : get_elem? s.views id ≡ some (v ∷ []) = me ∙ ap some one.0 in
-      let mine : get_elem? h.passes v.number ≡ some v = (h.seats id (v ∷ []) me' 0 v refl).0 in
-      let know = h.knows v.number v mine in
-      let is : get_or s.words (epoch_at k.rows n) 0 ≡ v.epoch = ap (λ (q : ℕ). get_or s.words (epoch_at k.rows q) 0) (sym one.1) ∙ know.epoch in (
-        m.0,
-        keeps,
-        tt,
-        unchanged M k first s id (epoch_at k.rows n) (get_or s.words (epoch_at k.rows n) 0) m.0 h me refl,
-        λ p _. (is, (let low = h.good.stands.bounded v.number know.there in let e = know.epoch in omega arith), refl, right_now M k first s h v mine),
-      )
-
   -- the same where the place is known by an equation
   pub enters_at : (k : Layout) (first : B) (slots id : ℕ) (m : Seat R B E) (n i : ℕ) → i ≡ epoch_at k.rows n → IsOne n m → (view m).core.stand ≡ None → (view m).epoch < 2 ^ 62
       → Allows (Holds M k first) slots id m i (λ y. (y + 1) % 2 ^ 64) (CrossTells entered m)
@@ -136,6 +120,3 @@ module _ {R B E : Type 0} (M : Meaning R B E) where
   pub leaves_at : (k : Layout) (first : B) (slots id : ℕ) (m : Seat R B E) (n i : ℕ) → i ≡ epoch_at k.rows n → IsOne n m → IsSome (view m).core.stand
       → Allows (Holds M k first) slots id m i (λ y. (y + 1) % 2 ^ 64) (CrossTells left m)
   leaves_at k first slots id m n i at one inside = subst (λ (j : ℕ). Allows (Holds M k first) slots id m j (λ y. (y + 1) % 2 ^ 64) (CrossTells left m)) (sym at) (leaves k first slots id m n one inside)
-
-  pub reads_at : (k : Layout) (first : B) (slots id : ℕ) (m : Seat R B E) (n i : ℕ) → i ≡ epoch_at k.rows n → IsOne n m → Allows (Holds M k first) slots id m i (λ y. y) (EpochTells m)
-  reads_at k first slots id m n i at one = subst (λ (j : ℕ). Allows (Holds M k first) slots id m j (λ y. y) (EpochTells m)) (sym at) (reads_epoch k first slots id m n one)

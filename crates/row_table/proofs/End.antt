@@ -197,6 +197,7 @@ module _ {R B E : Type 0} where
         once = λ r. let out = out-le-one h.good.states r in let is = out_is r in omega arith;
         there = λ r past. sym (out_is r) ∙ h.good.states.there r past;
         reached = λ r less none. linked_reached h.good r (record { there = less; in_tree = out_is r ∙ none });
+        generations = h.generations;
         unlisted = λ r reached. let l = reached_linked h.good r reached in (l.there, sym (out_is r) ∙ l.in_tree);
       }
 

@@ -21,7 +21,7 @@ use Rattle.row_table.specs.declared.view.PassView.{PassView}
 use Rattle.row_table.specs.declared.plan.Content.TheVariants.{Row, Book}
 use Rattle.row_table.specs.Plan.{Meaning}
 use Rattle.row_table.specs.Rows.{row_words, place_at, lock_of, generation_of}
-use Rattle.row_table.specs.Rule.{Homes, Table, levels_of, SameRows, core_part, Seats, core_of, Contents, Knows, Holds}
+use Rattle.row_table.specs.Rule.{Homes, Table, SameRows, core_part, Seats, core_of, Contents, Knows, Holds}
 use Rattle.row_table.proofs.Shown.{ShowsSame, ShowSame, lock_shows, book_shows}
 
 at_here : {A : Type 0} (l : List A) (i : ℕ) (a b : A) → get_elem? l i ≡ some b → get_elem? (set l i a) i ≡ some a
@@ -53,20 +53,20 @@ module _ {R B E : Type 0} where
   module _ (M : Meaning R B E) where
     -- the core of the state after a step is what the event makes of the core
     pub core_moves : (k : Layout) (ws : List ℕ) (ps : List (PassView R B E)) (free : List ℕ) (b b' : B) (v w : PassView R B E) (e : Event) → get_elem? ps (pass_of e) ≡ some v
-        → w.core ≡ pass_after (levels_of k) e (get_or ws (place_of k.rows k.passes e) 0) v.core → M.limbo b' ≡ limbo_after e (M.limbo b)
+        → w.core ≡ pass_after k.levels e (get_or ws (place_of k.rows k.passes e) 0) v.core → M.limbo b' ≡ limbo_after e (M.limbo b)
         → after (core_of M k ws ps free b) e ≡ core_of M k (words_after k ws e) (set ps (pass_of e) w) (free_after e free) b'
     core_moves k ws ps free b b' v w e at is limbo =
         let found : ℕ = get_or ws (place_of k.rows k.passes e) 0 in
         let cs : List PassCore = map core_part ps in
         let before : get_or cs (pass_of e) idle ≡ v.core = found_is cs (pass_of e) v.core idle (at_map core_part ps (pass_of e) v at) in
-        let path : set cs (pass_of e) (pass_after (levels_of k) e found (get_or cs (pass_of e) idle)) ≡ map core_part (set ps (pass_of e) w)
-        = ap (λ (x : PassCore). set cs (pass_of e) x) (ap (pass_after (levels_of k) e found) before ∙ sym is) ∙ sym (map-set core_part ps (pass_of e) w) in
-        λ i. record { levels = levels_of k; rows = k.rows; count = k.passes; words = set ws (place_of k.rows k.passes e) (number_after e found); passes = path i; free = free_after e free; limbo = sym limbo i }
+        let path : set cs (pass_of e) (pass_after k.levels e found (get_or cs (pass_of e) idle)) ≡ map core_part (set ps (pass_of e) w)
+        = ap (λ (x : PassCore). set cs (pass_of e) x) (ap (pass_after k.levels e found) before ∙ sym is) ∙ sym (map-set core_part ps (pass_of e) w) in
+        λ i. record { levels = k.levels; rows = k.rows; count = k.passes; words = set ws (place_of k.rows k.passes e) (number_after e found); passes = path i; free = free_after e free; limbo = sym limbo i }
 
     -- A step of the pass v by the event e, after which it is w, the book is b, and this stands at home
     pub moved : (k : Layout) (first : B) (s : Table R B E) (h : Holds M k first s) (id : ℕ) (v w : PassView R B E) (e : Event) (b : B) (homes : Homes R B)
         → get_elem? s.views id ≡ some (v ∷ []) → pass_of e ≡ v.number → w.number ≡ v.number → Guard (core_of M k s.words h.passes h.free h.book) v.core e
-        → w.core ≡ pass_after (levels_of k) e (get_or s.words (place_of k.rows k.passes e) 0) v.core
+        → w.core ≡ pass_after k.levels e (get_or s.words (place_of k.rows k.passes e) 0) v.core
         → SameRows (free_after e h.free) (M.free b) → M.limbo b ≡ limbo_after e (M.limbo h.book)
         → length homes ≡ length s.homes
         → Contents M k (words_after k s.words e) b homes
@@ -117,7 +117,7 @@ module _ {R B E : Type 0} where
     -- a step that leaves the book, and what the words show of rows and passes
     pub moved_here : (k : Layout) (first : B) (s : Table R B E) (h : Holds M k first s) (id : ℕ) (v w : PassView R B E) (e : Event) (homes : Homes R B)
         → get_elem? s.views id ≡ some (v ∷ []) → pass_of e ≡ v.number → w.number ≡ v.number → Guard (core_of M k s.words h.passes h.free h.book) v.core e
-        → w.core ≡ pass_after (levels_of k) e (get_or s.words (place_of k.rows k.passes e) 0) v.core
+        → w.core ≡ pass_after k.levels e (get_or s.words (place_of k.rows k.passes e) 0) v.core
         → free_after e h.free ≡ h.free → M.limbo h.book ≡ limbo_after e (M.limbo h.book)
         → length homes ≡ length s.homes
         → Contents M k (words_after k s.words e) h.book homes

@@ -21,8 +21,8 @@ use Rattle.row_table.specs.declared.view.PassView.{PassView}
 use Rattle.row_table.specs.declared.view.HeldRow.{HeldRow}
 use Rattle.row_table.specs.Plan.{Meaning}
 use Rattle.row_table.specs.Rows.{row_words, place_at, generation_of}
-use Rattle.row_table.specs.Rule.{Table, levels_of, core_of, Holds}
-use Rattle.row_table.specs.Known.{LinksRow, IsKnownPlace, IsKnownGeneration, IsHolder, IsLoose, LinksBelow, LinksLead, IsRight}
+use Rattle.row_table.specs.Rule.{Table, core_of, Holds}
+use Rattle.row_table.specs.Known.{LinksRow, IsKnownPlace, IsKnownGeneration, IsHolder, IsLoose, LinksBelow, LinksLead, LinksDown, IsPlaced, IsRight}
 use Rattle.row_table.proofs.Shown.{word_at, words_long}
 use Rattle.row_table.proofs.Hands.{rows_granted}
 use Rattle.row_table.proofs.Views.{pass_is, has_held}
@@ -47,7 +47,7 @@ module _ {R B E : Type 0} (M : Meaning R B E) (k : Layout) (first : B) (s : Tabl
         of_held = λ x j same. ap (place_at s.words) (sym same) ∙ (know.rows x j).place;
         of_entry = λ l. let o = know.rows l.linker l.held in let at = entry_is l.linker l.held l.index l.inside in
             let t = h.good.links.links_true l.linker.row l.index o.there l.inside (ap is_link at ∙ l.link) in
-            ap (place_at s.words) (sym (ap link_row at ∙ l.to_row)) ∙ (t.place ∙ (λ j. entry_place (levels_of (sym know.layout j)) (o.place j) l.index));
+            ap (place_at s.words) (sym (ap link_row at ∙ l.to_row)) ∙ (t.place ∙ (λ j. entry_place (sym know.layout j).levels (o.place j) l.index));
       }
 
   pub generation_known : (r : ℕ) → IsKnownGeneration v r (generation_of s.words r)
@@ -72,20 +72,31 @@ module _ {R B E : Type 0} (M : Meaning R B E) (k : Layout) (first : B) (s : Tabl
       subst (λ (y : Layout). link_row (get_or s.words (entry_at r i) 0) < y.rows) (sym know.layout) (names_there h.good.links r i less inside link)
 
   -- a link leads to the position of a table
-  pub link_leads : (r i : ℕ) → r < k.rows → i < 512 → is_link (get_or s.words (entry_at r i) 0) ≡ true → is_place (levels_of v.layout) (entry_place (levels_of v.layout) (place_at s.words r) i) ≡ true
+  pub link_leads : (r i : ℕ) → r < k.rows → i < 512 → is_link (get_or s.words (entry_at r i) 0) ≡ true → is_place v.layout.levels (entry_place v.layout.levels (place_at s.words r) i) ≡ true
   link_leads r i less inside link =
       let q : ℕ = link_row (get_or s.words (entry_at r i) 0) in
       let l = names_linked h.good.links r i less inside link in
       let t = h.good.links.links_true r i less inside link in
       let there = h.good.links.places q (names_no_root h.good.links r i less inside link) l in
-      subst (λ (y : Layout). is_place (levels_of y) (entry_place (levels_of y) (place_at s.words r) i) ≡ true) (sym (h.knows v.number v mine).layout) (ap (is_place (levels_of k)) (sym t.place) ∙ there)
+      subst (λ (y : Layout). is_place y.levels (entry_place y.levels (place_at s.words r) i) ≡ true) (sym (h.knows v.number v mine).layout) (ap (is_place k.levels) (sym t.place) ∙ there)
 
-  pub links_lead : (r : ℕ) → r < k.rows → LinksLead (levels_of v.layout) (place_at s.words r) (row_words s.words r)
+  pub links_lead : (r : ℕ) → r < k.rows → LinksLead v.layout.levels (place_at s.words r) (row_words s.words r)
   links_lead r less i inside link = link_leads r i less inside (ap is_link (sym (word_at s.words r i inside)) ∙ link)
+
+  pub links_down : (r : ℕ) → r < k.rows → LinksDown (row_words s.words r)
+  links_down r less i inside link = let at = word_at s.words r i inside in
+      subst (λ (n : ℕ). link_row n ≢ 0) (sym at) (names_no_root h.good.links r i less inside (ap is_link (sym at) ∙ link))
+
+  -- a row in the tree
+  pub placed_now : (r : ℕ) → IsLinked c r → IsPlaced v.layout.levels r (place_at s.words r)
+  placed_now r l = subst (λ (y : Layout). IsPlaced y.levels r (place_at s.words r)) (sym (h.knows v.number v mine).layout) (dite (ℕ_discrete r 0)
+      (λ e. inl (e, ap (place_at s.words) e ∙ h.good.links.root_place))
+      (λ ne. inr (ne, h.good.links.places r ne l)))
 
   pub right_now : IsRight v
   right_now =
       let know = h.knows v.number v mine in let is = pass_is M k first s h v mine in record {
+        levels = subst (λ (y : Layout). (4 ≤ y.levels) × (y.levels ≤ 5)) (sym know.layout) (⊎_elim (λ (e : k.levels ≡ 4). (omega arith, omega arith)) (λ (e : k.levels ≡ 5). (omega arith, omega arith)) h.good.sizes.bounds.some_levels);
         number = subst (λ (y : Layout). v.number < y.passes) (sym know.layout) know.there;
         rows = know.held;
         once = λ r. subst (λ (u : PassCore). times r u.held ≤ 1) is (h.good.locks.rows.once v.number r);

@@ -13,6 +13,7 @@ pub mod Spans
 pub mod Regions
 pub mod Vacant
 pub mod Turns
+pub mod Sampling
 pub mod Sizes
 pub mod End
 pub mod Crossings
@@ -27,3 +28,4 @@ pub mod Standing
 pub mod Holding
 pub mod Tree
 pub mod Stepping
+pub mod Reused

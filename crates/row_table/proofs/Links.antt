@@ -28,7 +28,7 @@ use Rattle.row_table.specs.declared.view.HandRow.{HandRow}
 use Rattle.row_table.specs.Plan.{Meaning}
 use Rattle.row_table.specs.Vacant.{all_entries, IsUnder, KeepsVacant}
 use Rattle.row_table.specs.Rows.{row_words, place_at, lock_of, generation_of}
-use Rattle.row_table.specs.Rule.{Seat, Table, levels_of, view, IsOne, row_part, hand_part, hand_state, granted_state, core_of, IsHeldRow, Knows, Holds}
+use Rattle.row_table.specs.Rule.{Seat, Table, view, IsOne, row_part, hand_part, hand_state, granted_state, core_of, IsHeldRow, Knows, Holds}
 use Rattle.row_table.specs.Moves.{NotInHand}
 use Rattle.row_table.specs.Links.{with_word, newly_linked, with_link, word_set, link_set, entry_set, entry_cut, LinksHand, MaySetEntry, SetTells, MayUnlink, CutTells}
 use Rattle.row_table.proofs.Shown.{word_at, words_long}
@@ -36,7 +36,7 @@ use Rattle.row_table.proofs.Hands.{rows_granted, states_kept}
 use Rattle.row_table.proofs.Views.{kept, pass_is, held_of_row, has_held, is_linked}
 use Rattle.row_table.proofs.Turns.{same_parts, contained_map}
 use Rattle.row_table.proofs.Vacant.{entry_below}
-use Rattle.row_table.proofs.Openings.{levels_low}
+use Rattle.row_table.proofs.Openings.{low_levels}
 use Rattle.row_table.proofs.Beside.{unique_part, held_once, others_show, epochs_stay, moved_beside, no_other_held}
 use Rattle.table_place.proofs.Entries.{level_of, below_is, entry_page}
 
@@ -125,7 +125,7 @@ module _ {R B E : Type 0} (M : Meaning R B E) where
         → ((h : HeldRow R) → (f h).row ≡ h.row)
         → ((h : HeldRow R) → Contains v.rows h → IsHeldRow M k us b (record v { core = record v.core { granted = gs; unlinked = ds }; rows = map f v.rows; hand = hand }) (f h))
         → map hand_state hand ≡ map granted_state gs → ((y : HandRow) → Contains hand y → Contains v.hand y)
-        → ((h : HeldRow R) → Contains v.rows h → times_in_hand h.row (record v.core { granted = gs; unlinked = ds }) ≡ 0 → KeepsVacant M (levels_of k) b v.last (f h))
+        → ((h : HeldRow R) → Contains v.rows h → times_in_hand h.row (record v.core { granted = gs; unlinked = ds }) ≡ 0 → KeepsVacant M k.levels b v.last (f h))
         → Knows M k first us b (record v { core = record v.core { granted = gs; unlinked = ds }; rows = map f v.rows; hand = hand })
     entry_knows b v gs ds f hand old same rows granted in_hand vacant = record {
       there = old.there;
@@ -137,7 +137,7 @@ module _ {R B E : Type 0} (M : Meaning R B E) where
       granted = granted;
       hand = λ y j. let o = old.hand y (in_hand y j) in record { there = o.there; shown = generation_stays y.row ∙ o.shown; below = o.below; fresh = o.fresh };
       vacant = λ y j. let o = contained_map f v.rows y j in
-          subst (λ (u : HeldRow R). times_in_hand u.row (record v.core { granted = gs; unlinked = ds }) ≡ 0 → KeepsVacant M (levels_of k) b v.last u) o.2
+          subst (λ (u : HeldRow R). times_in_hand u.row (record v.core { granted = gs; unlinked = ds }) ≡ 0 → KeepsVacant M k.levels b v.last u) o.2
           (λ out. vacant o.0 o.1 (sym (ap (λ (q : ℕ). times_in_hand q (record v.core { granted = gs; unlinked = ds })) (same o.0)) ∙ out));
       placed = λ y j p e. place_stays y.row ∙ old.placed y (in_hand y j) p e;
       found = old.found;
@@ -224,7 +224,7 @@ module _ {R B E : Type 0} (M : Meaning R B E) where
         (with_word_row r i x)
         (λ y j. word_row k first s.words r i x there inside (near_word i inside) h.book v (word_set v r i x) y refl (λ z. z) (know.rows y j))
         know.granted (λ y j. j)
-        (λ y j out. word_vacant k first s.words r i x there inside (near_word i inside) (levels_of k) h.book v.last y plain (know.rows y j).shown (know.vacant y j out)))
+        (λ y j out. word_vacant k first s.words r i x there inside (near_word i inside) k.levels h.book v.last y plain (know.rows y j).shown (know.vacant y j out)))
 
     -- a link to a row of the hand
 
@@ -251,11 +251,11 @@ module _ {R B E : Type 0} (M : Meaning R B E) where
       child_there : child < k.rows
       child_there = let o = (know.rows may.child may.is_open).there in let e = may.child_row in omega arith
 
-      child_place : place_at s.words child ≡ entry_place (levels_of k) linker.place i
-      child_place = ap (place_at s.words) (sym may.child_row) ∙ ((know.rows may.child may.is_open).place ∙ (may.place ∙ ap (λ (y : Layout). entry_place (levels_of y) linker.place i) know.layout))
+      child_place : place_at s.words child ≡ entry_place k.levels linker.place i
+      child_place = ap (place_at s.words) (sym may.child_row) ∙ ((know.rows may.child may.is_open).place ∙ (may.place ∙ ap (λ (y : Layout). entry_place y.levels linker.place i) know.layout))
 
-      child_level : (1 ≤ (entry_place (levels_of k) linker.place i).level) × ((entry_place (levels_of k) linker.place i).level ≤ levels_of k)
-      child_level = level_of (levels_of k) (entry_place (levels_of k) linker.place i) (ap (is_place (levels_of k)) (sym child_place)
+      child_level : (1 ≤ (entry_place k.levels linker.place i).level) × ((entry_place k.levels linker.place i).level ≤ k.levels)
+      child_level = level_of k.levels (entry_place k.levels linker.place i) (ap (is_place k.levels) (sym child_place)
           ∙ h.good.links.held_places v.number child (λ e. let root = h.good.states.root in let out = child_out in let same = ap (times_out c) e in omega arith) child_there
           (has_held M k first s h v mine child (subst (Has v.core.held) may.child_row (held_of_row M k first s h v mine may.child may.is_open))))
 
@@ -288,12 +288,12 @@ module _ {R B E : Type 0} (M : Meaning R B E) where
           ∙ ap (λ (t : Bool). cond t (record y { vacant = without i y.vacant }) y) (ne_eqb y.row r nr))
 
       -- where the entry was vacant, whatever agreed below it with the last book agrees with the book
-      kept_below : among linker.vacant i ≡ true → (a : B) → v.last ≡ Some a → (p : Place) → IsUnder p (entry_place (levels_of k) linker.place i) → (words : List ℕ) (y : R) → M.agrees a p words y → M.agrees h.book p words y
+      kept_below : among linker.vacant i ≡ true → (a : B) → v.last ≡ Some a → (p : Place) → IsUnder p (entry_place k.levels linker.place i) → (words : List ℕ) (y : R) → M.agrees a p words y → M.agrees h.book p words y
       kept_below vacant a last p under words y agrees =
           let out : NotInHand v r = Rattle.row_table.proofs.Views.not_in_hand M k first s h v mine r linked in
           (know.vacant linker held out).keeps i (among_has linker.vacant i vacant) a last p under words y agrees
 
-      place_of_child : (y : HeldRow R) → Contains v.rows y → y.row ≡ child → y.place ≡ entry_place (levels_of k) linker.place i
+      place_of_child : (y : HeldRow R) → Contains v.rows y → y.row ≡ child → y.place ≡ entry_place k.levels linker.place i
       place_of_child y j e = sym (know.rows y j).place ∙ (ap (place_at s.words) e ∙ child_place)
 
       linked_row : (y : HeldRow R) → Contains v.rows y → IsHeldRow M k (set s.words (515 * r + i) x) h.book w (with_link linker i child (with_word r i x y))
@@ -305,7 +305,7 @@ module _ {R B E : Type 0} (M : Meaning R B E) where
             generation = generation_stays k first s.words r i x there inside (near_word i inside) y.row ∙ o.generation;
             agrees = λ _. record {
               found = λ z u f. absurd (cc);
-              given = λ vacant a last words u agrees. kept_below vacant a last y.place (under_same y.place (entry_place (levels_of k) linker.place i) (place_of_child y j e)
+              given = λ vacant a last words u agrees. kept_below vacant a last y.place (under_same y.place (entry_place k.levels linker.place i) (place_of_child y j e)
                   (let same = ap (λ (p : Place). p.level) (place_of_child y j e) in let low = child_level.0 in omega arith)) words u agrees;
             };
           }))
@@ -325,26 +325,26 @@ module _ {R B E : Type 0} (M : Meaning R B E) where
             agrees = λ z. let a = o.agrees (still_out y.row nc z) in record { found = a.found; given = a.given };
           })))
 
-      child_vacant : (y : HeldRow R) → Contains v.rows y → y.row ≡ child → KeepsVacant M (levels_of k) h.book v.last (newly_linked linker i y)
+      child_vacant : (y : HeldRow R) → Contains v.rows y → y.row ≡ child → KeepsVacant M k.levels h.book v.last (newly_linked linker i y)
       child_vacant y j e = go (among linker.vacant i) refl
         where
-          go : (t : Bool) → among linker.vacant i ≡ t → KeepsVacant M (levels_of k) h.book v.last (record y { found = None; is_given = t; vacant = cond t all_entries [] })
+          go : (t : Bool) → among linker.vacant i ≡ t → KeepsVacant M k.levels h.book v.last (record y { found = None; is_given = t; vacant = cond t all_entries [] })
           go true is = record {
             vacant = λ q has_q. let low = entry_below q has_q in (
               low,
               ap is_link (ap (λ (l : List ℕ). get_or l q 0) (sym (know.rows y j).shown) ∙ (word_at s.words y.row q low
                   ∙ (ap (λ (z : ℕ). get_or s.words (entry_at z q) 0) e ∙ h.good.links.empty child q child_there low child_out))) ∙ zero_no_link,
             );
-            keeps = λ q has_q a last p under. let low = entry_below q has_q in let few = levels_low k in let level = child_level.1 in
-                kept_below is a last p (under_row (levels_of k) p (entry_place (levels_of k) linker.place i) q (omega arith) low (subst (λ (z : Place). IsUnder p (entry_place (levels_of k) z q)) (place_of_child y j e) under));
+            keeps = λ q has_q a last p under. let low = entry_below q has_q in let few = low_levels k k refl h.good.sizes.bounds.some_levels in let level = child_level.1 in
+                kept_below is a last p (under_row k.levels p (entry_place k.levels linker.place i) q (omega arith) low (subst (λ (z : Place). IsUnder p (entry_place k.levels z q)) (place_of_child y j e) under));
           }
           go false is = record { vacant = λ q none_has. let n = times-nil q in absurd (omega arith); keeps = λ q none_has. let n = times-nil q in absurd (omega arith) }
 
-      linked_vacant : (y : HeldRow R) → Contains v.rows y → times_in_hand y.row w.core ≡ 0 → KeepsVacant M (levels_of k) h.book v.last (with_link linker i child (with_word r i x y))
+      linked_vacant : (y : HeldRow R) → Contains v.rows y → times_in_hand y.row w.core ≡ 0 → KeepsVacant M k.levels h.book v.last (with_link linker i child (with_word r i x y))
       linked_vacant y j out = dite (ℕ_discrete y.row child)
-          (λ e. subst (KeepsVacant M (levels_of k) h.book v.last) (sym (of_child y e)) (child_vacant y j e))
+          (λ e. subst (KeepsVacant M k.levels h.book v.last) (sym (of_child y e)) (child_vacant y j e))
           (λ nc. dite (ℕ_discrete y.row r)
-          (λ e. let o = know.vacant y j (still_out y.row nc out) in subst (KeepsVacant M (levels_of k) h.book v.last) (sym (of_linker y e)) (record {
+          (λ e. let o = know.vacant y j (still_out y.row nc out) in subst (KeepsVacant M k.levels h.book v.last) (sym (of_linker y e)) (record {
             vacant = λ q has_q. let at = o.vacant q (times_without_le i q y.vacant has_q) in (
               at.0,
               dite (ℕ_discrete q i)
@@ -353,7 +353,7 @@ module _ {R B E : Type 0} (M : Meaning R B E) where
             );
             keeps = λ q has_q. o.keeps q (times_without_le i q y.vacant has_q);
           }))
-          (λ nr. subst (KeepsVacant M (levels_of k) h.book v.last) (sym (of_other y nc nr)) (know.vacant y j (still_out y.row nc out))))
+          (λ nr. subst (KeepsVacant M k.levels h.book v.last) (sym (of_other y nc nr)) (know.vacant y j (still_out y.row nc out))))
 
       pub stores_link : (id : ℕ) → get_elem? s.views id ≡ some (v ∷ [])
           → Holds M k first (record { words = set s.words (515 * r + i) x; homes = s.homes; views = set s.views id (link_set v linker i x ∷ []) })
@@ -368,7 +368,7 @@ module _ {R B E : Type 0} (M : Meaning R B E) where
               link = may.link;
               granted = granted_child;
               open_row = subst (Has v.core.held) may.child_row (held_of_row M k first s h v mine may.child may.is_open);
-              place = child_place ∙ ap (λ (p : Place). entry_place (levels_of k) p i) (sym (know.rows linker held).place);
+              place = child_place ∙ ap (λ (p : Place). entry_place k.levels p i) (sym (know.rows linker held).place);
               generation = ap (generation_of s.words) (sym may.same_row) ∙ ((know.hand may.hand_row may.granted).shown ∙ may.generation);
             }));
           })
@@ -408,7 +408,7 @@ module _ {R B E : Type 0} (M : Meaning R B E) where
         (with_word_row r i 0)
         (λ y j. word_row k first s.words r i 0 there inside (near_word i inside) h.book v w y refl (out y.row) (know.rows y j))
         know.granted (λ y j. j)
-        (λ y j z. word_vacant k first s.words r i 0 there inside (near_word i inside) (levels_of k) h.book v.last y zero_no_link (know.rows y j).shown (know.vacant y j (out y.row z))))
+        (λ y j z. word_vacant k first s.words r i 0 there inside (near_word i inside) k.levels h.book v.last y zero_no_link (know.rows y j).shown (know.vacant y j (out y.row z))))
 
   pub cuts : (k : Layout) (first : B) (slots id : ℕ) (m : Seat R B E) (n r i : ℕ) → IsOne n m → MayUnlink (view m) r i
       → Allows (Holds M k first) slots id m (entry_at r i) (λ _. 0) (λ _. CutTells (step slots (entry_at r i) 0 0 none) m 0)

@@ -29,12 +29,12 @@ use Rattle.row_table.specs.declared.view.HeldRow.{HeldRow}
 use Rattle.row_table.specs.declared.plan.Content.TheVariants.{Row}
 use Rattle.row_table.specs.Plan.{Meaning}
 use Rattle.row_table.specs.Rows.{row_words, place_at, generation_of}
-use Rattle.row_table.specs.Rule.{Slot, Homes, Seat, Table, levels_of, view, IsOne, row_part, core_of, Contents, Agrees, IsHeldRow, Knows, Holds}
+use Rattle.row_table.specs.Rule.{Slot, Homes, Seat, Table, view, IsOne, row_part, core_of, Contents, Agrees, IsHeldRow, Knows, Holds}
 use Rattle.row_table.specs.Vacant.{KeepsVacant}
 use Rattle.row_table.specs.Moves.{grabbed, looked, got, released, NotInHand, GrabSays, GrabTells, ReleaseTells, MayGrab, Fits}
 use Rattle.row_table.proofs.Shown.{words_long, ShowSame, lock_shows}
 use Rattle.row_table.proofs.Frames.{RowHome, moved_here, knows_shown, contents_locked, home_of, home_moves}
-use Rattle.row_table.proofs.Known.{held_below, place_known, generation_known, links_below, links_lead, right_now, loose_row, holder_of}
+use Rattle.row_table.proofs.Known.{held_below, place_known, generation_known, links_below, links_lead, links_down, placed_now, right_now, loose_row, holder_of}
 use Rattle.row_table.proofs.Views.{kept, rows_without, pass_is, is_linked, not_in_hand, guard_grab, has_held}
 
 -- a row's lock word is at most that of a row that nobody may take
@@ -63,7 +63,7 @@ module _ {R B E : Type 0} (M : Meaning R B E) where
         granted = now.granted;
         hand = now.hand;
         vacant = λ y i. ⊎_elim (now.vacant y)
-            (λ (e : g ≡ y). subst (λ (u : HeldRow R). times_in_hand u.row v.core ≡ 0 → KeepsVacant M (levels_of k) b v.last u) e
+            (λ (e : g ≡ y). subst (λ (u : HeldRow R). times_in_hand u.row v.core ≡ 0 → KeepsVacant M k.levels b v.last u) e
             (λ _. record { vacant = λ j has. let n = times-nil j in absurd (omega arith); keeps = λ j has. let n = times-nil j in absurd (omega arith) }))
             (Contains-push_cases v.rows g y i);
         placed = now.placed;
@@ -150,6 +150,8 @@ module _ {R B E : Type 0} (M : Meaning R B E) where
                   words = words;
                   all = words_long s.words r;
                   below = links_below M k first s h v mine r less;
+                  placed = placed_now M k first s h v mine r linked;
+                  down = links_down M k first s h v mine r less;
                   leads = links_lead M k first s h v mine r less;
                   content = t.0;
                   linked = not_in_hand M k first s h v mine r linked;

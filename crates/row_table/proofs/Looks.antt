@@ -14,9 +14,10 @@ use Rattle.row_layout.specs.declared.places.Layout.{Layout}
 use Rattle.row_table.specs.declared.view.PassView.{PassView}
 use Rattle.row_table.specs.Plan.{Meaning}
 use Rattle.row_table.specs.Rows.{place_at, generation_of}
-use Rattle.row_table.specs.Rule.{Seat, Table, levels_of, view, IsOne, Contents, Knows, Holds}
+use Rattle.row_table.specs.Rule.{Seat, Table, view, IsOne, Contents, Knows, Holds}
 use Rattle.row_table.specs.Looks.{looked_at, Reads, LookSays, LookTells, MayLook}
 use Rattle.row_table.proofs.Shown.{word_at}
+use Rattle.walk_core.proofs.Tree.{names_no_root}
 use Rattle.row_table.proofs.Frames.{moved}
 use Rattle.row_table.proofs.Views.{pass_is, has_held}
 use Rattle.row_table.proofs.Known.{place_known, generation_known, link_below, link_leads, right_now}
@@ -33,6 +34,7 @@ module _ {R B E : Type 0} (M : Meaning R B E) where
         holds = λ x j same. let o = know.rows x j in
             ap (λ (q : ℕ). get_or s.words (entry_at q i) 0) (sym same) ∙ (sym (word_at s.words x.row i inside) ∙ ap (λ (ws : List ℕ). get_or ws i 0) o.shown);
         below = λ link. link_below M k first s h v mine r i less inside link;
+        down = λ link. names_no_root h.good.links r i less inside link;
         leads = λ link. link_leads M k first s h v mine r i less inside link;
       }
 
@@ -71,7 +73,7 @@ module _ {R B E : Type 0} (M : Meaning R B E) where
         w ∷ [],
         keeps,
         tt,
-        moved M k first s h id v w (Look n r i) h.book s.homes me' (sym one.1) refl (inside, may) (ap (λ (y : Layout). pass_after (levels_of y) (Look n r i) found v.core) know.layout) h.same_free refl refl
+        moved M k first s h id v w (Look n r i) h.book s.homes me' (sym one.1) refl (inside, may) (ap (λ (y : Layout). pass_after y.levels (Look n r i) found v.core) know.layout) h.same_free refl refl
             (subst (λ (us : List ℕ). Contents M k us h.book s.homes) (sym path) h.contents)
             (λ q less. subst (λ (us : List ℕ). generation_of us q < M.next_generation h.book) (sym path) (h.generations q less))
             h.fixed

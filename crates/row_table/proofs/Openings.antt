@@ -1,5 +1,5 @@
 -- Set up and open row keep the rule.
-use Rattle.std.proofs.Common.{◌≡◌, ◌≢◌, ℕ, ◌+◌, ◌*◌, ◌<◌, ◌≤◌, ◌^◌, eqb, cond, true, false, Bool, List, [], ◌∷◌, ◌++◌, map, length, get_or, set, sym, refl, ap, ◌∙◌, subst, ⊎_elim, arith, length-set, get_or-set_same, get_or-set_other, eq-eqb, ne_eqb, Some}
+use Rattle.std.proofs.Common.{◌≡◌, ◌≢◌, ℕ, ◌+◌, ◌*◌, ◌<◌, ◌≤◌, ◌^◌, ◌⊎◌, eqb, cond, true, false, Bool, List, [], ◌∷◌, ◌++◌, map, length, get_or, set, sym, refl, ap, ◌∙◌, subst, ⊎_elim, arith, length-set, get_or-set_same, get_or-set_other, eq-eqb, ne_eqb, Some}
 use Rattle.std.specs.List.{Contains}
 use Rattle.std.proofs.lemmas.List.{map-append}
 use Rattle.std.proofs.lemmas.List.Elements.{Contains-push_cases}
@@ -25,6 +25,7 @@ use Rattle.walk_core.proofs.Facts.{hand-le-out, hand_there}
 use Rattle.walk_core.proofs.KeepsRows.{part_keeps_rows, is_place_low, prefix_low}
 use Rattle.walk_core.proofs.Spellings.{place_shown-position_word}
 use Rattle.row_layout.specs.declared.places.Layout.{Layout}
+use Rattle.row_layout.specs.Places.{IsLayout}
 use Rattle.row_table.specs.declared.view.PassView.{PassView}
 use Rattle.row_table.specs.declared.view.HeldRow.{HeldRow}
 use Rattle.row_table.specs.declared.view.HandRow.{HandRow}
@@ -32,7 +33,7 @@ use Rattle.row_table.specs.declared.plan.Content.TheVariants.{Row}
 use Rattle.row_table.specs.Plan.{Meaning}
 use Rattle.row_table.specs.Vacant.{blank_words, KeepsVacant}
 use Rattle.row_table.specs.Rows.{row_words, place_at, lock_of, generation_of}
-use Rattle.row_table.specs.Rule.{Seat, Table, levels_of, view, IsOne, row_part, hand_part, hand_state, granted_state, core_of, IsHeldRow, IsHandRow, Knows, Holds}
+use Rattle.row_table.specs.Rule.{Seat, Table, view, IsOne, row_part, hand_part, hand_state, granted_state, core_of, IsHeldRow, IsHandRow, Knows, Holds}
 use Rattle.row_table.specs.Openings.{with_place, with_number, opened_row, placed, numbered, prepared, opened, MaySetUp, PlaceTells, NumberTells, MayOpen, IsSetUp, OpenSays, OpenTells}
 use Rattle.row_table.proofs.Shown.{same_on, lock_shows}
 use Rattle.row_table.proofs.Hands.{rows_granted, states_placed, states_numbered, found_set_up, set_in_hand}
@@ -47,15 +48,17 @@ unfolding row_words blank_words
 blank_is ws r zeros = same_on (λ (j : ℕ). get_or ws (entry_at r j) 0) (λ (j : ℕ). 0) 0 512 (λ i less. zeros i (omega arith))
 
 -- a position that may be set up has a spelling
-pub levels_low : (k : Layout) → levels_of k ≤ 5
-unfolding levels_of
-levels_low k = omega arith
+pub low_levels : (k l : Layout) → l ≡ k → (k.levels ≡ 4) ⊎ (k.levels ≡ 5) → l.levels ≤ 5
+low_levels k l same four_or_five = let e = ap (λ (y : Layout). y.levels) same in ⊎_elim (λ (f : k.levels ≡ 4). omega arith) (λ (f : k.levels ≡ 5). omega arith) four_or_five
 
-pub is_spelled : (k : Layout) (q : Place) → is_place (levels_of k) q ≡ true → (q.space < 64) × (q.level < 8) × (q.prefix < 2 ^ 45)
-is_spelled k q right = let low = is_place_low (levels_of k) q right in let small = low.1 in let most = levels_low k in (low.0, omega arith, prefix_low (levels_of k) q most right)
+pub few_levels : {k l : Layout} → IsLayout k → l ≡ k → l.levels ≤ 5
+few_levels {k} {l} is same = let e = ap (λ (y : Layout). y.levels) same in let high = is.5 in omega arith
 
-pub spelled_is : (k : Layout) (q : Place) (x : ℕ) → is_place (levels_of k) q ≡ true → x ≡ position_word q → place_shown x ≡ q
-spelled_is k q x right is = let low = is_spelled k q right in ap place_shown is ∙ place_shown-position_word q low.0 low.1
+pub is_spelled : (k : Layout) (q : Place) → k.levels ≤ 5 → is_place k.levels q ≡ true → (q.space < 64) × (q.level < 8) × (q.prefix < 2 ^ 45)
+is_spelled k q most right = let low = is_place_low k.levels q right in let small = low.1 in (low.0, omega arith, prefix_low k.levels q most right)
+
+pub spelled_is : (k : Layout) (q : Place) (x : ℕ) → k.levels ≤ 5 → is_place k.levels q ≡ true → x ≡ position_word q → place_shown x ≡ q
+spelled_is k q x most right is = let low = is_spelled k q most right in ap place_shown is ∙ place_shown-position_word q low.0 low.1
 
 module _ {R B E : Type 0} (M : Meaning R B E) where
   -- what the rule says of a row of the pass's hand that it does not hold
@@ -140,7 +143,7 @@ module _ {R B E : Type 0} (M : Meaning R B E) where
       go true = record { there = old.there; shown = old.shown; below = old.below; fresh = old.fresh }
       go false = old
 
-  pub places : (k : Layout) (first : B) (slots id : ℕ) (m : Seat R B E) (n r : ℕ) (q : Place) (known : HandRow) → IsOne n m → Contains (view m).hand known → known.row ≡ r → times r (view m).core.held ≡ 0 → is_place (levels_of (view m).layout) q ≡ true
+  pub places : (k : Layout) (first : B) (slots id : ℕ) (m : Seat R B E) (n r : ℕ) (q : Place) (known : HandRow) → IsOne n m → Contains (view m).hand known → known.row ≡ r → times r (view m).core.held ≡ 0 → is_place (view m).layout.levels q ≡ true
       → Allows (Holds M k first) slots id m (position_at r) (λ _. position_word q) (λ _. PlaceTells (step slots (position_at r) (position_word q) 0 none) m (position_word q))
   places k first slots id m n r q known one in_hand same_row unheld right s h long me _ =
       let v : PassView R B E = view m in
@@ -152,15 +155,15 @@ module _ {R B E : Type 0} (M : Meaning R B E) where
       let wide = h.good.sizes.words in
       let near : position_at r < length s.words = omega arith in
       let word : ℕ = position_word q in let shown : Place = place_shown word in
-      let path : shown ≡ q = spelled_is v.layout q word right refl in
-      let right_here : is_place (levels_of k) q ≡ true = subst (λ (y : Layout). is_place (levels_of y) q ≡ true) know.layout right in
+      let path : shown ≡ q = spelled_is v.layout q word (low_levels k v.layout know.layout h.good.sizes.bounds.some_levels) right refl in
+      let right_here : is_place k.levels q ≡ true = subst (λ (y : Layout). is_place y.levels q ≡ true) know.layout right in
       let ws : List ℕ = set s.words (515 * r + 513) word in
       let at : place_at ws r ≡ shown = ap place_shown (get_or-set_same s.words (position_at r) word 0 near) in
       let w : PassView R B E = placed v r shown in (
         w ∷ [],
         keeps,
         tt,
-        set_part k first s h id v (Position shown) (with_place r shown) r 513 word me' refl (omega arith) (λ e. omega arith) (ap position_word path) granted unheld (ap (is_place (levels_of k)) path ∙ right_here)
+        set_part k first s h id v (Position shown) (with_place r shown) r 513 word me' refl (omega arith) (λ e. omega arith) (ap position_word path) granted unheld (ap (is_place k.levels) path ∙ right_here)
             (subst (λ (g : ℕ). g < M.next_generation h.book) (sym (generation_stays s.words r word r)) (h.generations r less))
             (prepared_knows k first s.words r 513 word less (omega arith) (λ e. omega arith) h.book v (Position shown) (with_place r shown) unheld know (with_place_row r shown) (states_placed r shown v.hand v.core.granted know.granted)
             (λ x i. let o = know.hand x i in with_place_known k ws h.book r shown x (record { there = o.there; shown = generation_stays s.words r word x.row ∙ o.shown; below = o.below; fresh = o.fresh }))
@@ -260,7 +263,7 @@ module _ {R B E : Type 0} (M : Meaning R B E) where
         granted = now.granted;
         hand = now.hand;
         vacant = λ y i. ⊎_elim (now.vacant y)
-            (λ (e : x ≡ y). subst (λ (u : HeldRow R). times_in_hand u.row v.core ≡ 0 → KeepsVacant M (levels_of k) b v.last u) e (λ out. absurd (omega arith)))
+            (λ (e : x ≡ y). subst (λ (u : HeldRow R). times_in_hand u.row v.core ≡ 0 → KeepsVacant M k.levels b v.last u) e (λ out. absurd (omega arith)))
             (Contains-push_cases v.rows x y i);
         placed = now.placed;
         found = now.found;
@@ -303,7 +306,7 @@ module _ {R B E : Type 0} (M : Meaning R B E) where
 
   -- the same where the place and the number are known by equations
 
-  pub places_at : (k : Layout) (first : B) (slots id : ℕ) (m : Seat R B E) (n r i x : ℕ) (q : Place) (known : HandRow) → i ≡ position_at r → x ≡ position_word q → IsOne n m → Contains (view m).hand known → known.row ≡ r → times r (view m).core.held ≡ 0 → is_place (levels_of (view m).layout) q ≡ true
+  pub places_at : (k : Layout) (first : B) (slots id : ℕ) (m : Seat R B E) (n r i x : ℕ) (q : Place) (known : HandRow) → i ≡ position_at r → x ≡ position_word q → IsOne n m → Contains (view m).hand known → known.row ≡ r → times r (view m).core.held ≡ 0 → is_place (view m).layout.levels q ≡ true
       → Allows (Holds M k first) slots id m i (λ _. x) (λ _. PlaceTells (step slots i x 0 none) m x)
   places_at k first slots id m n r i x q known at is one in_hand same_row unheld right =
       subst (λ (j : ℕ). Allows (Holds M k first) slots id m j (λ _. x) (λ _. PlaceTells (step slots j x 0 none) m x)) (sym at)

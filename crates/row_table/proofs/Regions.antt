@@ -16,7 +16,7 @@ use Rattle.row_table.specs.declared.view.PassView.{PassView}
 use Rattle.row_table.specs.declared.view.HeldRow.{HeldRow}
 use Rattle.row_table.specs.Plan.{Meaning, Covers, IsOutside, IsUntouched}
 use Rattle.row_table.specs.Rows.{place_at}
-use Rattle.row_table.specs.Rule.{Table, levels_of, core_of, Holds}
+use Rattle.row_table.specs.Rule.{Table, core_of, Holds}
 use Rattle.row_table.specs.Moves.{NotInHand}
 use Rattle.row_table.specs.Books.{IsHeldAt, IsBelow, region}
 use Rattle.row_table.proofs.Shown.{word_at}
@@ -68,7 +68,7 @@ module _ {R B E : Type 0} (M : Meaning R B E) (k : Layout) (first : B) (s : Tabl
         inside = b.inside;
         link = ap is_link found ∙ b.link;
         child_held = subst (λ (n : ℕ). ¬ Has v.core.held (link_row n)) (sym found) b.child_held;
-        place = b.child_place ∙ (λ j. entry_place (levels_of (sym (knows_it M k first s h v mine).layout j)) (sym x.4 j) b.index);
+        place = b.child_place ∙ (λ j. entry_place (sym (knows_it M k first s h v mine).layout j).levels (sym x.4 j) b.index);
       } in
       λ inside. let clash : true ≡ false = sym (b.covers space page at) ∙ inside.1 (place_in c child) below in cc
 

@@ -1,5 +1,6 @@
 -- The sizes that a pass keeps, after each step.
-use Rattle.std.proofs.Common.{◌≡◌, ℕ, ◌+◌, ◌<◌, ◌&&◌, Bool, true, false, cond, eqb, not, List, [], ◌∷◌, ◌++◌, map, sym, refl, ap, ◌∙◌, subst, ⊎_elim, arith, Option, Some, None}
+use Rattle.std.proofs.Common.{◌≡◌, ℕ, ◌+◌, ◌%◌, ◌^◌, ◌<◌, ◌&&◌, Bool, true, false, cond, eqb, not, List, [], ◌∷◌, ◌++◌, map, length, sym, refl, ap, ◌∙◌, subst, ⊎_elim, arith, Option, Some, None, ◌≤◌}
+use Rattle.std.specs.Prelude.{IsSome}
 use Rattle.std.specs.List.{Contains}
 use Rattle.std.proofs.lemmas.List.Elements.{Contains-push_cases}
 use Rattle.std.proofs.lemmas.Bool.{and_parts, cases_lt}
@@ -12,22 +13,25 @@ use Rattle.table_place.specs.Place.{entry_place}
 use Rattle.walk_core.specs.declared.pass.Stand.{Stand}
 use Rattle.walk_core.specs.Words.{is_link, link_row, link_generation}
 use Rattle.walk_core.specs.declared.pass.GrantedRow.{GrantedRow}
-use Rattle.walk_core.specs.Lists.{Has, times, without}
+use Rattle.walk_core.specs.declared.lists.PutRow.{PutRow}
+use Rattle.walk_core.specs.declared.pass.UnlinkedRow.{UnlinkedRow}
+use Rattle.walk_core.specs.Lists.{Has, times, without, among}
 use Rattle.walk_core.specs.Core.{granted_rows}
 use Rattle.walk_core.specs.Events.{top, stand_after_look, newly_granted}
 use Rattle.walk_core.proofs.RowLists.{times-nil, times-append}
 use Rattle.walk_core.specs.Guards.{StandsOn}
+use Rattle.walk_core.specs.Good.{inside as inside_now}
 use Rattle.row_layout.specs.declared.places.Layout.{Layout}
 use Rattle.row_layout.specs.Places.{word_count}
 use Rattle.row_table.specs.declared.view.PassView.{PassView}
 use Rattle.row_table.specs.declared.view.HeldRow.{HeldRow}
 use Rattle.row_table.specs.Plan.{Meaning}
-use Rattle.row_table.specs.Rule.{levels_of, row_part, hand_part, unmoved}
-use Rattle.row_table.specs.Known.{LinksRow, LinksBelow, IsSized}
+use Rattle.row_table.specs.Rule.{row_part, hand_part, unmoved}
+use Rattle.row_table.specs.Known.{LinksRow, LinksBelow, IsRight, IsCounted, IsSized}
 use Rattle.row_table.specs.Moves.{grabbed, looked, got, released, MayGrab}
 use Rattle.row_table.specs.Looks.{looked_at, MayLook}
 use Rattle.row_table.specs.Crossings.{entered, left}
-use Rattle.row_table.specs.Books.{given, hand_rows, taken_rows, turned, waited, gave}
+use Rattle.row_table.specs.Books.{given, hand_rows, put_list, taken_rows, turned, waited, gave}
 use Rattle.row_table.specs.Stack.{AreRows}
 use Rattle.row_table.proofs.Views.{kept, has_row, rows_without}
 use Rattle.row_table.proofs.Turns.{same_parts, whole, contained_map}
@@ -53,7 +57,30 @@ stands_after rows levels r i n (Some x) old link s is = go (eqb x.row r && is_li
     go true e at = let less = link (and_parts (eqb x.row r) (is_link n) e).1 in subst (λ (y : Stand). y.row < rows) (same_Some _ _ at) less
     go false e at = subst (λ (y : Stand). y.row < rows) (same_Some _ _ at) (old x refl)
 
-module _ {R B E : Type 0} {n rows : ℕ} {id : TableId} {v : PassView R B E} (old : IsSized n rows id v) where
+-- a look leaves whether the pass is inside
+counted_look : {epoch : ℕ} {stand : Option Stand} (levels r i n : ℕ) → IsCounted epoch stand → IsCounted epoch (stand_after_look levels r i n stand)
+counted_look {epoch} {stand} levels r i n = go stand
+  where
+    go : (t : Option Stand) → IsCounted epoch t → IsCounted epoch (stand_after_look levels r i n t)
+    go None c = c
+    go (Some x) c = led (eqb x.row r && is_link n)
+      where
+        led : (b : Bool) → IsCounted epoch (cond b (Some (record { row = link_row n; place = entry_place levels x.place i; generation = link_generation n })) (Some x))
+        led true = record { parity = c.parity; bounded = c.bounded }
+        led false = c
+
+-- the number after an enter and after a leave
+counted_in : {epoch : ℕ} {stand : Option Stand} → IsCounted epoch stand → stand ≡ None → epoch < 2 ^ 62 → IsCounted (epoch + 1) (Some top)
+counted_in {epoch} c outside less = let even : epoch % 2 ≡ 0 = c.parity ∙ ap inside_now outside in record { parity = omega arith; bounded = omega arith }
+
+counted_out : {epoch : ℕ} {stand : Option Stand} → IsCounted epoch stand → IsSome stand → IsCounted (epoch + 1) None
+counted_out {epoch} {stand} = go stand
+  where
+    go : (stand : Option Stand) → IsCounted epoch stand → IsSome stand → IsCounted (epoch + 1) None
+    go None c inside = absurd (cc)
+    go (Some s) c inside = let odd : epoch % 2 ≡ 1 = c.parity in let most = c.bounded in record { parity = omega arith; bounded = omega arith }
+
+module _ {R B E : Type 0} {n rows epoch : ℕ} {id : TableId} {v : PassView R B E} (old : IsSized n rows epoch id v) where
   -- which rows are there
 
   stands_below : (r : ℕ) → StandsOn v.core r → r < rows
@@ -72,12 +99,18 @@ module _ {R B E : Type 0} {n rows : ℕ} {id : TableId} {v : PassView R B E} (ol
   same_sizes other k same words slots = let a = old.slots in let b = old.words in let c = old.rows_are in let d = old.number in
       let e = ap (λ (x : TableId). x.words) same in let f = ap (λ (x : TableId). x.slots) same in (omega arith, omega arith)
 
-  pub same_layout : (other : TableId) (k : Layout) → id ≡ other → other.words ≡ word_count k → other.slots ≡ k.rows + 1 → v.layout ≡ k
-  same_layout other k same words slots =
-      let a = old.slots in let b = old.words in let c = old.rows_are in let e = ap (λ (x : TableId). x.words) same in let f = ap (λ (x : TableId). x.slots) same in
-      let rows_same : v.layout.rows ≡ k.rows = omega arith in
-      let passes_same : v.layout.passes ≡ k.passes = omega arith in
-      λ i. record { rows = rows_same i; passes = passes_same i }
+  -- what is always true of what a pass knows
+  pub right_of : (4 ≤ v.layout.levels) × (v.layout.levels ≤ 5) → AreRows rows v.core.held → n ≡ v.number → IsRight v
+  right_of levels are is = record {
+    levels = levels;
+    number = (let less = old.number in omega arith);
+    rows = old.held_rows;
+    once = λ r. (are r).0;
+    long = old.long;
+    hand = old.granted.0;
+    parity = old.counted.parity;
+    bounded = old.counted.bounded;
+  }
 
   pub row_there : AreRows rows v.core.held → (other : TableId) (k : Layout) → id ≡ other → other.words ≡ word_count k → other.slots ≡ k.rows + 1 → (r : ℕ) → MayLook v r → r < k.rows
   row_there are other k same words slots r may = let less = look_below are r may in let all = (same_sizes other k same words slots).0 in omega arith
@@ -97,66 +130,82 @@ module _ {R B E : Type 0} {n rows : ℕ} {id : TableId} {v : PassView R B E} (ol
 
   -- after each step
 
-  pub sized_enter : 0 < rows → IsSized n rows id (entered v)
-  sized_enter some_rows = record { slots = old.slots; words = old.words; rows_are = old.rows_are; number = old.number; held_rows = old.held_rows; stand = λ s is. subst (λ (y : Stand). y.row < rows) (same_Some top s is) some_rows; links = old.links; granted = old.granted }
+  pub sized_enter : 0 < rows → v.core.stand ≡ None → v.epoch < 2 ^ 62 → IsSized n rows (epoch + 1) id (entered v)
+  sized_enter some_rows outside less = record { slots = old.slots; words = old.words; rows_are = old.rows_are; number = old.number; same_epoch = ap (λ (x : ℕ). x + 1) old.same_epoch; counted = counted_in old.counted outside less; long = old.long; held_rows = old.held_rows; stand = λ s is. subst (λ (y : Stand). y.row < rows) (same_Some top s is) some_rows; links = old.links; granted = old.granted; places = old.places }
 
-  pub sized_leave : IsSized n rows id (left v)
-  sized_leave = record { slots = old.slots; words = old.words; rows_are = old.rows_are; number = old.number; held_rows = old.held_rows; stand = λ s is. none_is s is; links = old.links; granted = old.granted }
+  pub sized_leave : IsSome v.core.stand → IsSized n rows (epoch + 1) id (left v)
+  sized_leave inside = record { slots = old.slots; words = old.words; rows_are = old.rows_are; number = old.number; same_epoch = ap (λ (x : ℕ). x + 1) old.same_epoch; counted = counted_out old.counted inside; long = old.long; held_rows = old.held_rows; stand = λ s is. none_is s is; links = old.links; granted = old.granted; places = old.places }
 
-  pub sized_look : (r i w : ℕ) (place : Place) → (is_link w ≡ true → link_row w < v.layout.rows) → IsSized n rows id (looked_at v r place i w)
+  pub sized_look : (r i w : ℕ) (place : Place) → (is_link w ≡ true → link_row w < v.layout.rows) → IsSized n rows epoch id (looked_at v r place i w)
   sized_look r i w place below = record {
     slots = old.slots;
     words = old.words;
     rows_are = old.rows_are;
     number = old.number;
+    same_epoch = old.same_epoch;
+    counted = counted_look v.layout.levels r i w old.counted;
+    long = old.long;
     held_rows = old.held_rows;
-    stand = stands_after rows (levels_of v.layout) r i w v.core.stand old.stand (λ link. let less = below link in let same = old.rows_are in omega arith);
+    stand = stands_after rows v.layout.levels r i w v.core.stand old.stand (λ link. let less = below link in let same = old.rows_are in omega arith);
     links = old.links;
     granted = old.granted;
+    places = old.places;
   }
 
-  pub sized_miss : (r : ℕ) (place : Place) (w : ℕ) → IsSized n rows id (looked v r place None w)
-  sized_miss r place w = record { slots = old.slots; words = old.words; rows_are = old.rows_are; number = old.number; held_rows = old.held_rows; stand = old.stand; links = old.links; granted = old.granted }
+  pub sized_miss : (r : ℕ) (place : Place) (w : ℕ) → IsSized n rows epoch id (looked v r place None w)
+  sized_miss r place w = record { slots = old.slots; words = old.words; rows_are = old.rows_are; number = old.number; same_epoch = old.same_epoch; counted = old.counted; long = old.long; held_rows = old.held_rows; stand = old.stand; links = old.links; granted = old.granted; places = old.places }
 
-  pub sized_got : (r : ℕ) (place : Place) (g : ℕ) (words : List ℕ) (x : R) → LinksBelow v.layout.rows words → IsSized n rows id (got v r place g words x)
-  sized_got r place g words x below = record {
+  pub sized_got : (r : ℕ) (place : Place) (g : ℕ) (words : List ℕ) (x : R) → length words ≡ 512 → LinksBelow v.layout.rows words → IsSized n rows epoch id (got v r place g words x)
+  sized_got r place g words x all below = record {
     slots = old.slots;
     words = old.words;
     rows_are = old.rows_are;
     number = old.number;
+    same_epoch = old.same_epoch;
+    counted = old.counted;
+    long = λ h i. ⊎_elim (λ (j : Contains v.rows h). old.long h j) (λ (e : grabbed r place g words x ≡ h). subst (λ (y : HeldRow R). length y.words ≡ 512) e all)
+        (Contains-push_cases v.rows (grabbed r place g words x) h i);
     held_rows = map-append row_part v.rows (grabbed r place g words x ∷ []) ∙ ap (λ (l : List ℕ). l ++ r ∷ []) old.held_rows;
     stand = old.stand;
     links = λ h i. ⊎_elim (λ (j : Contains v.rows h). old.links h j)
         (λ (e : grabbed r place g words x ≡ h). subst (λ (y : HeldRow R). LinksBelow rows y.words) e (subst (λ (m : ℕ). LinksBelow m words) (sym old.rows_are) below))
         (Contains-push_cases v.rows (grabbed r place g words x) h i);
     granted = old.granted;
+    places = old.places;
   }
 
-  pub sized_released : (r : ℕ) → IsSized n rows id (released v r)
+  pub sized_released : (r : ℕ) → IsSized n rows epoch id (released v r)
   sized_released r = record {
     slots = old.slots;
     words = old.words;
     rows_are = old.rows_are;
     number = old.number;
+    same_epoch = old.same_epoch;
+    counted = old.counted;
+    long = λ h i. old.long h (kept (λ (u : HeldRow R). not (eqb u.row r)) v.rows h i).1;
     held_rows = rows_without r v.rows ∙ ap (without r) old.held_rows;
     stand = old.stand;
     links = λ h i. old.links h (kept (λ (u : HeldRow R). not (eqb u.row r)) v.rows h i).1;
     granted = old.granted;
+    places = old.places;
   }
 
-  pub sized_waited : (w : ℕ) → IsSized n rows id (waited v w)
-  sized_waited w = record { slots = old.slots; words = old.words; rows_are = old.rows_are; number = old.number; held_rows = old.held_rows; stand = old.stand; links = old.links; granted = old.granted }
+  pub sized_waited : (w : ℕ) → IsSized n rows epoch id (waited v w)
+  sized_waited w = record { slots = old.slots; words = old.words; rows_are = old.rows_are; number = old.number; same_epoch = old.same_epoch; counted = old.counted; long = old.long; held_rows = old.held_rows; stand = old.stand; links = old.links; granted = old.granted; places = old.places }
 
   module _ (M : Meaning R B E) where
-    pub sized_turned : (book : B) → IsSized n rows id (turned M v book)
-    sized_turned book = record { slots = old.slots; words = old.words; rows_are = old.rows_are; number = old.number; held_rows = old.held_rows; stand = old.stand; links = old.links; granted = old.granted }
+    pub sized_turned : (book : B) → IsSized n rows epoch id (turned M v book)
+    sized_turned book = record { slots = old.slots; words = old.words; rows_are = old.rows_are; number = old.number; same_epoch = old.same_epoch; counted = old.counted; long = old.long; held_rows = old.held_rows; stand = old.stand; links = old.links; granted = old.granted; places = (refl, old.places.1) }
 
-    pub sized_gave : (a b : B) (generation : ℕ → ℕ) → ((r : ℕ) → Has (taken_rows M a b) r → r < v.layout.rows) → IsSized n rows id (gave M v a b generation)
+    pub sized_gave : (a b : B) (generation : ℕ → ℕ) → ((r : ℕ) → Has (taken_rows M a b) r → r < v.layout.rows) → IsSized n rows epoch id (gave M v a b generation)
     sized_gave a b generation taken = record {
       slots = old.slots;
       words = old.words;
       rows_are = old.rows_are;
       number = old.number;
+      same_epoch = old.same_epoch;
+      counted = old.counted;
+      long = λ h i. let o = contained_map given v.rows h i in subst (λ (y : HeldRow R). length y.words ≡ 512) o.2 (old.long o.0 o.1);
       held_rows = same_parts given row_part row_part (λ x. refl) v.rows ∙ old.held_rows;
       stand = old.stand;
       links = λ h i. let o = contained_map given v.rows h i in subst (λ (y : HeldRow R). LinksBelow rows y.words) o.2 (old.links o.0 o.1);
@@ -168,7 +217,8 @@ module _ {R B E : Type 0} {n rows : ℕ} {id : TableId} {v : PassView R B E} (ol
             (λ none_before. let less = taken r (omega arith) in let same = old.rows_are in omega arith)
             (λ before. old.granted.1 r (omega arith)),
       );
+      places = (old.places.0, λ u i. old.places.1 u (kept (λ (y : UnlinkedRow). not (among (map (λ (k : PutRow). k.row) (put_list M a b)) y.row)) v.core.unlinked u i).1);
     }
 
-pub sized_new : {R B E : Type 0} (n rows : ℕ) (id : TableId) (k : Layout) (origin : Option B) → id.slots ≡ rows + 1 → id.words ≡ word_count k → rows ≡ k.rows → n < k.passes → IsSized n rows id (unmoved {R = R} {B = B} {E = E} k origin n)
-sized_new n rows id k origin slots words same less = record { slots = slots; words = words; rows_are = same; number = less; held_rows = refl; stand = λ s is. none_is s is; links = λ h i. let z = i.1 in absurd (omega arith); granted = (refl, λ r has. let z = times-nil r in absurd (omega arith)) }
+pub sized_new : {R B E : Type 0} (n rows : ℕ) (id : TableId) (k : Layout) (origin : Option B) → id.slots ≡ rows + 1 → id.words ≡ word_count k → rows ≡ k.rows → n < k.passes → IsSized n rows 0 id (unmoved {R = R} {B = B} {E = E} k origin n)
+sized_new n rows id k origin slots words same less = record { slots = slots; words = words; rows_are = same; number = less; same_epoch = refl; counted = record { parity = refl; bounded = omega arith }; long = λ h i. let z = i.1 in absurd (omega arith); held_rows = refl; stand = λ s is. none_is s is; links = λ h i. let z = i.1 in absurd (omega arith); granted = (refl, λ r has. let z = times-nil r in absurd (omega arith)); places = (refl, λ u i. let z = i.1 in absurd (omega arith)) }

@@ -19,14 +19,14 @@ use Rattle.walk_core.specs.Core.{Core, word, idle, times_in_hand, times_out, May
 use Rattle.walk_core.specs.Good.{Good, LockSays, says_free, says_held, says_stale}
 use Rattle.walk_core.proofs.RowLists.{times-nil, range-push}
 use Rattle.walk_core.proofs.Facts.{free_linked}
-use Rattle.walk_core.proofs.Boot.{boot_good, boot_zero, word_is, times-range_out, times-range_in}
+use Rattle.walk_core.proofs.Boot.{four_or_five, boot_good, boot_zero, word_is, times-range_out, times-range_in}
 use Rattle.row_layout.specs.declared.places.Layout.{Layout}
 use Rattle.row_layout.specs.Places.{IsLayout}
 use Rattle.row_table.specs.declared.view.PassView.{PassView}
 use Rattle.row_table.specs.declared.plan.Content.TheVariants.{Row, Book}
 use Rattle.row_table.specs.Plan.{Meaning, IsLawful}
 use Rattle.row_table.specs.Rows.{row_words, place_at, lock_of, generation_of}
-use Rattle.row_table.specs.Rule.{Slot, Seat, Homes, levels_of, unmoved, boot_from, boot_views, core_part, core_of, Seats, Knows, Holds}
+use Rattle.row_table.specs.Rule.{Slot, Seat, Homes, unmoved, boot_from, boot_views, core_part, core_of, Seats, Knows, Holds}
 use Rattle.row_table.specs.Start.{start_words, row_slot, start_slots, MayStart, first_pass, other_passes}
 use Rattle.row_table.proofs.Known.{held_below}
 
@@ -103,15 +103,14 @@ sum_by-same f zero a none = refl
 sum_by-same f (suc n) a none = let here = sum_by-cons f a (replicate n a) in let rest = sum_by-same f n a none in omega arith
 
 module _ (k : Layout) (is : IsLayout k) where
-  may : MayBoot (levels_of k) k.rows k.passes
-  unfolding levels_of
-  may = record { some_levels = inl refl; rows_low = is.0; rows_high = is.1; count_low = is.2; count_high = is.3 }
+  may : MayBoot k.levels k.rows k.passes
+  may = record { some_levels = four_or_five k.levels is.4 is.5; rows_low = is.0; rows_high = is.1; count_low = is.2; count_high = is.3 }
 
   abbrev c : Core
-  c = boot (levels_of k) k.rows k.passes
+  c = boot k.levels k.rows k.passes
 
   good : Good c
-  good = boot_good (levels_of k) k.rows k.passes may
+  good = boot_good k.levels k.rows k.passes may
 
   free_is : (r : ℕ) → times_out c r ≡ times r (range_with_len 2 (k.rows - 2))
   unfolding boot times_out
@@ -127,15 +126,11 @@ module _ (k : Layout) (is : IsLayout k) where
 
   pub long_is : length (start_words k) ≡ word_count k.rows k.passes
   unfolding boot
-  long_is = length-map (range_with_len 0 (word_count k.rows k.passes)) (boot_word (levels_of k) k.rows) ∙ length-range_with_len 0 (word_count k.rows k.passes)
-
-  levels_four : levels_of k ≡ 4
-  unfolding levels_of
-  levels_four = refl
+  long_is = length-map (range_with_len 0 (word_count k.rows k.passes)) (boot_word k.levels k.rows) ∙ length-range_with_len 0 (word_count k.rows k.passes)
 
   -- the words that were read one by one
-  pub words_listed : (d : Core) (ws : List ℕ) (n : ℕ) → d ≡ boot 4 k.rows k.passes → n ≡ word_count k.rows k.passes → ws ≡ map (word d) (range_with_len 0 n) → ws ≡ start_words k
-  words_listed d ws n same all is = is ∙ (ap (λ (x : Core). map (word x) (range_with_len 0 n)) (same ∙ ap (λ (n : ℕ). boot n k.rows k.passes) (sym levels_four))
+  pub words_listed : (d : Core) (ws : List ℕ) (n : ℕ) → d ≡ boot k.levels k.rows k.passes → n ≡ word_count k.rows k.passes → ws ≡ map (word d) (range_with_len 0 n) → ws ≡ start_words k
+  words_listed d ws n same all is = is ∙ (ap (λ (x : Core). map (word x) (range_with_len 0 n)) same
       ∙ sym (fill_by_all (word c) (start_words k) n 0 (long_is ∙ sym all) (λ i _. refl)))
 
   zero_low : (r : ℕ) → r < k.rows → lock_of (start_words k) r ≡ 0 → r < 2
@@ -152,18 +147,18 @@ module _ (k : Layout) (is : IsLayout k) where
 
   generation_low : (r : ℕ) → r < k.rows → generation_of (start_words k) r < 2
   generation_low r less = dite (ℕ_discrete r 1)
-      (λ e. let at : generation_of (start_words k) r ≡ 1 = ap (generation_of (start_words k)) e ∙ word_is (levels_of k) k.rows k.passes may 1029 (let low = is.0 in omega arith) in omega arith)
-      (λ ne. let at : generation_of (start_words k) r ≡ 0 = word_is (levels_of k) k.rows k.passes may (generation_at r) (omega arith) ∙ boot_zero (levels_of k) k.rows (generation_at r) (λ e. omega arith) (λ e. omega arith) (λ e. omega arith) (λ e. omega arith) (λ e. omega arith) in omega arith)
+      (λ e. let at : generation_of (start_words k) r ≡ 1 = ap (generation_of (start_words k)) e ∙ word_is k.levels k.rows k.passes may 1029 (let low = is.0 in omega arith) in omega arith)
+      (λ ne. let at : generation_of (start_words k) r ≡ 0 = word_is k.levels k.rows k.passes may (generation_at r) (omega arith) ∙ boot_zero k.levels k.rows (generation_at r) (λ e. omega arith) (λ e. omega arith) (λ e. omega arith) (λ e. omega arith) (λ e. omega arith) in omega arith)
 
   epoch_zero : (p : ℕ) → p < k.passes → get_or (start_words k) (epoch_at k.rows p) 0 ≡ 0
-  epoch_zero p less = let low = is.0 in let few = is.3 in word_is (levels_of k) k.rows k.passes may (epoch_at k.rows p) (omega arith)
-      ∙ boot_zero (levels_of k) k.rows (epoch_at k.rows p) (λ e. omega arith) (λ e. omega arith) (λ e. omega arith) (λ e. omega arith) (λ e. omega arith)
+  epoch_zero p less = let low = is.0 in let few = is.3 in word_is k.levels k.rows k.passes may (epoch_at k.rows p) (omega arith)
+      ∙ boot_zero k.levels k.rows (epoch_at k.rows p) (λ e. omega arith) (λ e. omega arith) (λ e. omega arith) (λ e. omega arith) (λ e. omega arith)
 
 module _ {R B E : Type 0} (M : Meaning R B E) where
-  core_new : (k : Layout) (ws : List ℕ) (book : B) → ws ≡ start_words k → M.limbo book ≡ [] → boot (levels_of k) k.rows k.passes ≡ core_of M k ws (boot_views k book) (range_with_len 2 (k.rows - 2)) book
+  core_new : (k : Layout) (ws : List ℕ) (book : B) → ws ≡ start_words k → M.limbo book ≡ [] → boot k.levels k.rows k.passes ≡ core_of M k ws (boot_views k book) (range_with_len 2 (k.rows - 2)) book
   unfolding boot
   core_new k ws book words limbo = λ i. record {
-    levels = levels_of k;
+    levels = k.levels;
     rows = k.rows;
     count = k.passes;
     words = sym words i;

@@ -12,6 +12,7 @@ use Rattle.row_table.specs.declared.plan.Content.TheVariants.{Row, Book}
 use Rattle.row_table.specs.Rule.{Slot, Seat, view, IsOne, SameRows}
 use Rattle.row_table.specs.Known.{IsSized}
 use Rattle.row_table.specs.Stack.{outs, carried, AreRows}
+use Rattle.row_table.specs.Passes.{TableModel, table_known}
 
 -- the contents in front of two stacks
 pub same_front : {S : Type 0} (x y : ℕ × S) (cs ds : List (ℕ × S)) → x ∷ cs ≡ y ∷ ds → x.1 ≡ y.1
@@ -82,17 +83,24 @@ rows_less rows r held are q = let h = are q in let past = h.1 in dite (ℕ_discr
     (λ ne. let n = times_without_other r q held ne in (omega arith, λ p. let z = past p in omega arith))
 
 -- what a pass keeps of its seat at the table of this number and of the slots that it carries
-pub record Kept {R B E : Type 0} (n rows : ℕ) (id : TableId) (m : Seat R B E) (items : List ℕ) : Type 0 where
+pub record Kept {R B E : Type 0} (n rows epoch : ℕ) (id : TableId) (m : Seat R B E) (items : List ℕ) : Type 0 where
   pub one : IsOne n m
-  pub sized : IsSized n rows id (view m)
+  pub sized : IsSized n rows epoch id (view m)
   pub stacked : m.1 ≡ outs items
   pub carries : SameRows items (carried rows (view m).core.held (view m).core.has_book)
   pub held : AreRows rows (view m).core.held
 
-pub kept_by : {R B E : Type 0} (n rows : ℕ) (id to : TableId) (m : Seat R B E) (items : List ℕ) (w : PassView R B E) → to ≡ id → m ≡ (w ∷ [], outs items) → w.number ≡ n
-    → IsSized n rows id w → SameRows items (carried rows w.core.held w.core.has_book) → AreRows rows w.core.held → Kept n rows to m items
-kept_by {R} {B} {E} n rows id to m items w table e number sized same are = subst (λ (i : TableId). Kept n rows i m items) (sym table)
-    (subst (λ (y : Seat R B E). Kept n rows id y items) (sym e) (record { one = (refl, number); sized = sized; stacked = refl; carries = same; held = are }))
+pub kept_by : {R B E : Type 0} (n rows epoch : ℕ) (id to : TableId) (m : Seat R B E) (items : List ℕ) (w : PassView R B E) → to ≡ id → m ≡ (w ∷ [], outs items) → w.number ≡ n
+    → IsSized n rows epoch id w → SameRows items (carried rows w.core.held w.core.has_book) → AreRows rows w.core.held → Kept n rows epoch to m items
+kept_by {R} {B} {E} n rows epoch id to m items w table e number sized same are = subst (λ (i : TableId). Kept n rows epoch i m items) (sym table)
+    (subst (λ (y : Seat R B E). Kept n rows epoch id y items) (sym e) (record { one = (refl, number); sized = sized; stacked = refl; carries = same; held = are }))
+
+-- which table it is: the same number, and by what the pass knows now
+pub same_id : {B : Type 0} {a b : TableModel B} → a ≡ b → a.id ≡ b.id
+same_id same = ap (λ y. y.id) same
+
+pub same_table : {R B E : Type 0} (id to : TableId) (v w u : PassView R B E) → to ≡ id → w ≡ u → u.layout ≡ v.layout → u.origin ≡ v.origin → table_known to w ≡ table_known id v
+same_table {R} {B} {E} id to v w u ids is layouts origins = λ i. record { id = ids i; layout = (ap (λ (y : PassView R B E). y.layout) is ∙ layouts) i; origin = (ap (λ (y : PassView R B E). y.origin) is ∙ origins) i }
 
 -- a row that is held is carried
 pub carried_row : (rows r : ℕ) (held items : List ℕ) (has : Bool) → SameRows items (carried rows held has) → Has held r → Has items r

@@ -1,7 +1,10 @@
 -- The rows that links reach from row 0 are the linked ones of a good core, and make one tree.
-use Rattle.std.proofs.Common.{◌≡◌, ◌≢◌, ℕ, zero, suc, ◌+◌, ◌<◌, ◌≤◌, true, sym, ap, ◌∙◌, subst, arith}
+use Rattle.std.proofs.Common.{◌≡◌, ◌≢◌, ◌↔◌, ℕ, zero, suc, ◌+◌, ◌<◌, ◌≤◌, true, sym, ap, ◌∙◌, subst, arith}
 use mathlib.Core.Logic.{dite}
 use native.Mathlib.Decide.{ℕ_discrete}
+use Rattle.table_place.specs.declared.Place.{Place}
+use Rattle.table_place.specs.Place.{entry_place}
+use Rattle.table_place.proofs.Entries.{level_of, below_is}
 use Rattle.walk_core.specs.Words.{entry_at, is_link, link_row}
 use Rattle.walk_core.specs.Core.{Core, word, place_in, generation_in, IsLinked}
 use Rattle.walk_core.specs.Good.{Good}
@@ -11,6 +14,7 @@ use Rattle.walk_core.proofs.Spellings.{zero_no_link}
 use Rattle.row_layout.specs.declared.places.Layout.{Layout}
 use Rattle.row_table.specs.Plan.{Meaning}
 use Rattle.row_table.specs.Rule.{Table, core_of, Holds}
+use Rattle.row_table.specs.Rows.{place_at}
 use Rattle.row_table.specs.Close.{IsReachedIn, IsReached}
 use Rattle.row_table.specs.Tree.{IsNamedOnce, LeadsDown, IsTree}
 use Rattle.row_table.proofs.Spans.{Parent, parent_of, row_low, above_level, same_parents, same_place}
@@ -73,6 +77,16 @@ module _ {R B E : Type 0} (M : Meaning R B E) (k : Layout) (first : B) (s : Tabl
     place = (h.good.links.links_true r i there inside link).place;
   }
 
+  -- where an entry leads to a root, it is one of the directory
+  is_root : (r i : ℕ) → IsReached s.words r → i < 512 → is_link (word c (entry_at r i)) ≡ true → (r ≡ 0) ↔ ((place_at s.words (link_row (word c (entry_at r i)))).level ≡ k.levels)
+  is_root r i o inside link =
+      let l = reached_linked h.good r o in let is = (leads_down r i o inside link).place in (
+        λ e. ap (λ (p : Place). p.level) (is ∙ ap (λ (p : Place). entry_place k.levels p i) (ap (place_at s.words) e ∙ h.good.links.root_place)),
+        λ at. dite (ℕ_discrete r 0) (λ e. e) (λ ne.
+            let some_level = level_of k.levels (place_at s.words r) (h.good.links.places r ne l) in
+            let lower = ap (λ (p : Place). p.level) (is ∙ below_is k.levels (place_at s.words r) i (row_low h.good r ne l)) in absurd (omega arith)),
+      )
+
   pub is_tree : IsTree k s.words
   is_tree = record {
     there = λ r i. (reached_linked h.good r i).there;
@@ -80,5 +94,6 @@ module _ {R B E : Type 0} (M : Meaning R B E) (k : Layout) (first : B) (s : Tabl
     apart = λ a b i j e. same_place h.good a b (reached_linked h.good a i) (reached_linked h.good b j) e;
     named = is_named;
     leads = leads_down;
+    roots = is_root;
     tables = λ r ne o. h.good.links.places r ne (reached_linked h.good r o);
   }

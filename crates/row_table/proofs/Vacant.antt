@@ -18,7 +18,7 @@ use Rattle.row_table.specs.declared.view.PassView.{PassView}
 use Rattle.row_table.specs.declared.view.HeldRow.{HeldRow}
 use Rattle.row_table.specs.Plan.{Meaning, IsLawful, IsUntouched}
 use Rattle.row_table.specs.Vacant.{all_entries, vacant_entries, IsUnder, KeepsVacant}
-use Rattle.row_table.specs.Rule.{Table, levels_of, core_of, Holds}
+use Rattle.row_table.specs.Rule.{Table, core_of, Holds}
 use Rattle.row_table.specs.Moves.{NotInHand}
 use Rattle.row_table.specs.Books.{given, region}
 use Rattle.row_table.proofs.Shown.{word_at}
@@ -163,7 +163,7 @@ module _ {R B E : Type 0} (M : Meaning R B E) where
 
     -- what another pass knows of such positions, after the pass gave the book
     pub vacant_kept : IsLawful M → (new : B) → M.may_follow (region v) h.book new → (u : PassView R B E) → get_elem? h.passes u.number ≡ some u → u.number ≢ v.number
-        → (x : HeldRow R) → Contains u.rows x → NotInHand u x.row → KeepsVacant M (levels_of k) h.book u.last x → KeepsVacant M (levels_of k) new u.last x
+        → (x : HeldRow R) → Contains u.rows x → NotInHand u x.row → KeepsVacant M k.levels h.book u.last x → KeepsVacant M k.levels new u.last x
     vacant_kept lawful new follows u its apart x i hand old =
         let held = held_of_row M k first s h u its x i in
         let is = (h.knows u.number u its).rows x i in
@@ -174,5 +174,5 @@ module _ {R B E : Type 0} (M : Meaning R B E) where
           keeps = λ j has a last p under words y agrees. let at = old.vacant j has in
               lawful.keeps_agreement (region v) h.book new follows p
               (hole_untouched x.row j linked out at.0 (ap is_link (sym (word_at s.words x.row j at.0) ∙ ap (λ (ws : List ℕ). get_or ws j 0) is.shown) ∙ at.1) p
-              (subst (λ (q : Place). IsUnder p (entry_place (levels_of k) q j)) (sym is.place) under)) words y (old.keeps j has a last p under words y agrees);
+              (subst (λ (q : Place). IsUnder p (entry_place k.levels q j)) (sym is.place) under)) words y (old.keeps j has a last p under words y agrees);
         }

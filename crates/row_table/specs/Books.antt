@@ -28,10 +28,11 @@ use Rattle.row_table.specs.declared.view.PassView.{PassView}
 use Rattle.row_table.specs.declared.view.HeldRow.{HeldRow}
 use Rattle.row_table.specs.declared.view.HandRow.{HandRow}
 use Rattle.row_table.specs.Plan.{Meaning, Region}
-use Rattle.row_table.specs.Rule.{Slot, Seat, levels_of, StartsWith, SameRows, view, own_places, core_of, Agrees}
+use Rattle.row_table.specs.Rule.{Slot, Seat, StartsWith, SameRows, view, own_places, core_of, Agrees}
 use Rattle.row_table.specs.Vacant.{vacant_entries}
 use Rattle.row_table.specs.Known.{IsAnother, IsRight}
 use Rattle.row_table.specs.Moves.{NotInHand}
+use Rattle.row_table.specs.Blocked.{IsBlocked}
 
 abbrev pub given : {R : Type 0} → HeldRow R → HeldRow R
 given h = record h { is_given = true; vacant = vacant_entries h.words }
@@ -49,7 +50,7 @@ module _ {R B E : Type 0} where
     pub inside : index < 512
     pub link : is_link (slice_index linker.words index) ≡ true
     pub child_held : ¬ Has v.core.held (link_row (slice_index linker.words index))
-    pub place : p ≡ entry_place (levels_of v.layout) linker.place index
+    pub place : p ≡ entry_place v.layout.levels linker.place index
 
   abbrev pub region : PassView R B E → Region
   region v = record {
@@ -85,6 +86,8 @@ module _ {R B E : Type 0} where
       pub guard : Guard (book_core k old) v.core (give_of v.number old new)
       pub free : SameRows (free_after (give_of v.number old new) (M.free old)) (M.free new)
       pub limbo : M.limbo new ≡ limbo_after (give_of v.number old new) (M.limbo old)
+      -- where there is a new entry and it shows the limbo, each row in limbo has a reader
+      pub blocked : M.shows_limbo new ≡ true → (entry : E) → M.journal new ≡ M.journal old ++ entry ∷ [] → (x : PutRow) → Contains (M.limbo new) x → IsBlocked k.passes v.core x
 
     -- What the pass knows afterwards
 

@@ -21,8 +21,8 @@ use Rattle.row_layout.specs.Places.{word_count}
 use Rattle.row_table.specs.declared.plan.Content.TheVariants.{Row, Book}
 use Rattle.row_table.specs.declared.view.PassView.{PassView}
 use Rattle.row_table.specs.Plan.{Meaning}
-use Rattle.row_table.specs.Rows.{row_words, place_at}
-use Rattle.row_table.specs.Rule.{Slot, levels_of, SameRows, StartsWith, own_places}
+use Rattle.row_table.specs.Rows.{row_words, place_at, generation_of}
+use Rattle.row_table.specs.Rule.{Slot, SameRows, StartsWith, own_places}
 
 pub record HasNothing (v : PassCore) : Type 0 where
   pub outside : v.stand ≡ None
@@ -53,7 +53,7 @@ module _ {R B E : Type 0} (M : Meaning R B E) where
   pub record IsGoodEnd (k : Layout) (words : List ℕ) (book : B) : Type 0 where
     pub core : Core
     pub good : Good core
-    pub levels : core.levels ≡ levels_of k
+    pub levels : core.levels ≡ k.levels
     pub rows : core.rows ≡ k.rows
     pub count : core.count ≡ k.passes
     pub words_same : core.words ≡ words
@@ -63,6 +63,8 @@ module _ {R B E : Type 0} (M : Meaning R B E) where
     pub once : (r : ℕ) → times_listed r book ≤ 1
     pub there : (r : ℕ) → k.rows ≤ r → times_listed r book ≡ 0
     pub reached : (r : ℕ) → r < k.rows → times_listed r book ≡ 0 → IsReached words r
+    -- the next generation is above all that rows have
+    pub generations : (r : ℕ) → r < k.rows → generation_of words r < M.next_generation book
     pub unlisted : (r : ℕ) → IsReached words r → (r < k.rows) × (times_listed r book ≡ 0)
 
   -- the journal, the epoch word and the fixed part of the book as a pass knew them

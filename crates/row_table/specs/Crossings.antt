@@ -1,13 +1,12 @@
 -- What enter and leave make of what a pass knows, and what they tell.
 --     entered, left      the pass after it entered, and after it left
---     CrossTells, EpochTells      what a step on the own epoch word tells, and a load of it
+--     CrossTells      what a step on the own epoch word tells
 --     Enters      what an enter answers
-use Rattle.std.specs.Prelude.{◌≡◌, ℕ, ◌+◌, ◌<◌, ◌≤◌, ◌^◌, [], ◌∷◌, None, Some, Result, Ok, Err}
+use Rattle.std.specs.Prelude.{◌≡◌, ℕ, ◌+◌, ◌<◌, ◌^◌, [], ◌∷◌, None, Some, Result, Ok, Err}
 use Rattle.walk_core.specs.Events.{top}
 use Rattle.row_table.specs.declared.answers.Worn.{Worn}
 use Rattle.row_table.specs.declared.view.PassView.{PassView}
 use Rattle.row_table.specs.Rule.{Seat, view}
-use Rattle.row_table.specs.Known.{IsRight}
 
 module _ {R B E : Type 0} where
   abbrev pub entered : PassView R B E → PassView R B E
@@ -18,9 +17,6 @@ module _ {R B E : Type 0} where
 
   abbrev pub CrossTells : (PassView R B E → PassView R B E) → Seat R B E → ℕ → Seat R B E → Type 0
   CrossTells f m n m' = (n ≡ (view m).epoch) × (m' ≡ (f (view m) ∷ [], m.1))
-
-  abbrev pub EpochTells : Seat R B E → ℕ → Seat R B E → Type 0
-  EpochTells m n m' = (p : ℕ) → (view m).number ≡ p → (n ≡ (view m).epoch) × (n ≤ 2 ^ 62) × (m' ≡ m) × IsRight (view m)
 
   -- an epoch word at its end is worn
   abbrev pub Enters : PassView R B E → Result (Unit {0}) Worn → PassView R B E → Type 0

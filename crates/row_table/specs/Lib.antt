@@ -5,7 +5,9 @@ pub mod Rule
 pub mod Known
 pub mod Moves
 pub mod Stack
+pub mod Blocked
 pub mod Books
+pub mod Sampling
 pub mod Crossings
 pub mod Looks
 pub mod Openings
@@ -20,3 +22,4 @@ pub mod Standing
 pub mod Holding
 pub mod Tree
 pub mod Stepping
+pub mod Reuse

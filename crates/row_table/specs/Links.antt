@@ -16,7 +16,7 @@ use Rattle.row_table.specs.declared.view.PassView.{PassView}
 use Rattle.row_table.specs.declared.view.HeldRow.{HeldRow}
 use Rattle.row_table.specs.declared.view.HandRow.{HandRow}
 use Rattle.row_table.specs.Vacant.{all_entries}
-use Rattle.row_table.specs.Rule.{Slot, Seat, levels_of, view}
+use Rattle.row_table.specs.Rule.{Slot, Seat, view}
 use Rattle.row_table.specs.Moves.{NotInHand}
 use Rattle.row_table.specs.Openings.{MayOpen}
 
@@ -59,7 +59,7 @@ module _ {R B E : Type 0} where
     pub hand_row : HandRow
     pub granted : Contains v.hand hand_row
     pub same_row : hand_row.row ≡ link_row word
-    pub place : child.place ≡ entry_place (levels_of v.layout) linker.place index
+    pub place : child.place ≡ entry_place v.layout.levels linker.place index
     pub generation : hand_row.generation ≡ link_generation word
 
   -- the row is held and linked, the old word is no link, and the new one is 0, a leaf in a row of level 1, or such a link

@@ -18,8 +18,8 @@ use Rattle.row_table.specs.declared.view.PassView.{PassView}
 use Rattle.row_table.specs.declared.view.HeldRow.{HeldRow}
 use Rattle.row_table.specs.declared.view.Finding.{Finding}
 use Rattle.row_table.specs.Plan.{Meaning}
-use Rattle.row_table.specs.Rule.{Slot, Seat, levels_of, view}
-use Rattle.row_table.specs.Known.{LinksRow, IsKnownPlace, IsKnownGeneration, IsHolder, IsLoose, LinksBelow, LinksLead, IsRight}
+use Rattle.row_table.specs.Rule.{Slot, Seat, view}
+use Rattle.row_table.specs.Known.{LinksRow, IsKnownPlace, IsKnownGeneration, IsHolder, IsLoose, LinksBelow, LinksLead, LinksDown, IsPlaced, IsRight}
 
 abbrev pub finding : ℕ → Place → Option ℕ → ℕ → Finding
 finding row place index word = record { row = row; place = place; index = index; word = word }
@@ -44,7 +44,7 @@ module _ {R B E : Type 0} where
   abbrev pub NotInHand : PassView R B E → ℕ → Type 0
   NotInHand v row = times_in_hand row v.core ≡ 0
 
-  -- what a grab that took the row found: its position, its generation, its 512 entry words and its content. The row is linked, and the pass did not hold it
+  -- what a grab that took the row found: its position, its generation, its 512 entry words and its content. The row is linked, so it is row 0 at the directory or another one at the position of a table, and the pass did not hold it
   pub record Finds (row : ℕ) (v : PassView R B E) : Type 0 where
     pub right : IsRight v
     pub there : row < v.layout.rows
@@ -55,7 +55,9 @@ module _ {R B E : Type 0} where
     pub words : List ℕ
     pub all : length words ≡ 512
     pub below : LinksBelow v.layout.rows words
-    pub leads : LinksLead (levels_of v.layout) place words
+    pub placed : IsPlaced v.layout.levels row place
+    pub down : LinksDown words
+    pub leads : LinksLead v.layout.levels place words
     pub content : R
     pub linked : NotInHand v row
     pub once : ¬ Has v.core.held row

@@ -20,7 +20,7 @@ use Rattle.row_table.specs.declared.view.HeldRow.{HeldRow}
 use Rattle.row_table.specs.declared.view.HandRow.{HandRow}
 use Rattle.row_table.specs.Plan.{Meaning}
 use Rattle.row_table.specs.Vacant.{blank_words}
-use Rattle.row_table.specs.Rule.{Slot, Seat, levels_of, view}
+use Rattle.row_table.specs.Rule.{Slot, Seat, view}
 
 -- Set up
 
@@ -50,7 +50,7 @@ module _ {R B E : Type 0} where
     pub in_hand : Contains v.hand known
     pub same_row : known.row ≡ row
     pub closed : times row v.core.held ≡ 0
-    pub is_place : is_place (levels_of v.layout) place ≡ true
+    pub is_place : is_place v.layout.levels place ≡ true
     pub above : known.generation < generation
     pub low : known.low ≤ generation
     pub high : generation < known.high

@@ -1,6 +1,5 @@
 -- The rule of the shared table: between any two steps its words, the values at home and the views stand for a good core.
 --     Slot, Homes, Seat, Table      a slot, what stands at home, what one seat knows and has, and the table
---     levels_of      how many levels the page tables have
 --     StartsWith, own_places      a journal begins with what was seen;  the places of one thread's entries in a journal
 --     unmoved, boot_views      a pass that has done nothing, and the passes at the start
 --     view, IsOne      what the one pass of a seat knows
@@ -47,12 +46,8 @@ Seat R B E = Me (Slot R B) (List (PassView R B E))
 abbrev pub Table : Type 0 → Type 0 → Type 0 → Type 0
 Table R B E = State (Slot R B) (List (PassView R B E))
 
--- how many levels the page tables of a space have
-unfoldable pub levels_of : Layout → ℕ
-levels_of k = 4
-
 abbrev pub no_layout : Layout
-no_layout = record { rows = 0; passes = 0 }
+no_layout = record { rows = 0; passes = 0; levels = 0 }
 
 abbrev pub StartsWith : {E : Type 0} → List E → List E → Type 0
 StartsWith {E} journal seen = (more : List E) × (journal ≡ seen ++ more)
@@ -110,7 +105,7 @@ module _ {R B E : Type 0} where
     own_places p journal = places_from (λ e. M.thread e == p) 0 journal
 
     abbrev pub core_of : Layout → List ℕ → List (PassView R B E) → List ℕ → B → Core
-    core_of k words passes free book = record { levels = levels_of k; rows = k.rows; count = k.passes; words = words; passes = map core_part passes; free = free; limbo = M.limbo book }
+    core_of k words passes free book = record { levels = k.levels; rows = k.rows; count = k.passes; words = words; passes = map core_part passes; free = free; limbo = M.limbo book }
 
     -- a row that nobody holds is at home and agrees with the book, a row that nobody may take is at home and blank, and so is the book while no pass has it
     pub record Contents (k : Layout) (words : List ℕ) (book : B) (homes : Homes R B) : Type 0 where
@@ -146,7 +141,7 @@ module _ {R B E : Type 0} where
       pub rows : (h : HeldRow R) → Contains v.rows h → IsHeldRow k words book v h
       pub granted : map hand_state v.hand ≡ map granted_state v.core.granted
       pub hand : (x : HandRow) → Contains v.hand x → IsHandRow k words book x
-      pub vacant : (h : HeldRow R) → Contains v.rows h → times_in_hand h.row v.core ≡ 0 → KeepsVacant M (levels_of k) book v.last h
+      pub vacant : (h : HeldRow R) → Contains v.rows h → times_in_hand h.row v.core ≡ 0 → KeepsVacant M k.levels book v.last h
       pub placed : (x : HandRow) → Contains v.hand x → (p : Place) → x.place ≡ Some p → place_at words x.row ≡ p
       pub found : v.core.has_book ≡ true → v.found ≡ Some book
       pub origin : v.origin ≡ Some first

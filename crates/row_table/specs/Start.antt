@@ -14,11 +14,11 @@ use Rattle.row_table.specs.declared.plan.Content.TheVariants.{Row, Book}
 use Rattle.row_table.specs.declared.view.PassView.{PassView}
 use Rattle.row_table.specs.Plan.{Meaning}
 use Rattle.row_table.specs.Rows.{row_words, place_at}
-use Rattle.row_table.specs.Rule.{Slot, levels_of, SameRows}
+use Rattle.row_table.specs.Rule.{Slot, SameRows}
 
 -- those of the core at the start; `StartsTrue` says what they show of the first two rows
 abbrev pub start_words : Layout → List ℕ
-start_words k = (boot (levels_of k) k.rows k.passes).words
+start_words k = (boot k.levels k.rows k.passes).words
 
 abbrev pub row_slot : {R B : Type 0} → R → Slot R B
 row_slot x = Some (Row x)

@@ -5,13 +5,12 @@ use Rattle.table_place.specs.Place.{root, directory}
 use Rattle.walk_core.specs.Words.{link_word}
 use Rattle.row_layout.specs.declared.places.Layout.{Layout}
 use Rattle.row_table.specs.Rows.{row_words, place_at, generation_of}
-use Rattle.row_table.specs.Rule.{levels_of}
 use Rattle.row_table.specs.Start.{start_words}
 
 -- the link names row 1 with generation 1, which is that of the row
 pub record StartsTrue (k : Layout) : Type 0 where
   pub directory_place : place_at (start_words k) 0 ≡ directory
-  pub root_place : place_at (start_words k) 1 ≡ root (levels_of k) 0
+  pub root_place : place_at (start_words k) 1 ≡ root k.levels 0
   pub root_generation : generation_of (start_words k) 1 ≡ 1
   pub link : slice_index (row_words (start_words k) 0) 0 ≡ link_word 1 1
   pub others : (index : ℕ) → 1 ≤ index → index < 512 → slice_index (row_words (start_words k) 0) index ≡ 0

@@ -1,11 +1,17 @@
 -- The calls of a pass and the events of the pure core.
---     IsEvent      a pass that knew v and then knows w has done the event, which found this number in its word
-use Rattle.std.specs.Prelude.{◌≡◌, ℕ}
+--     IsEvent      a pass that knew v and then knows w has done the event, on the word at this place, which held the one number and then the other
+--     KeepsLists      the event leaves the book's lists as they are
+use Rattle.std.specs.Prelude.{◌≡◌, ℕ, List}
 use Rattle.walk_core.specs.declared.event.Event.{Event}
-use Rattle.walk_core.specs.Events.{pass_of, pass_after}
+use Rattle.walk_core.specs.declared.lists.PutRow.{PutRow}
+use Rattle.walk_core.specs.Events.{pass_of, place_of, number_after, pass_after, free_after, limbo_after}
 use Rattle.row_table.specs.declared.view.PassView.{PassView}
-use Rattle.row_table.specs.Rule.{levels_of}
 
-pub record IsEvent {R B E : Type 0} (e : Event) (found : ℕ) (v w : PassView R B E) : Type 0 where
+pub record IsEvent {R B E : Type 0} (e : Event) (place found number : ℕ) (v w : PassView R B E) : Type 0 where
   pub own : pass_of e ≡ v.number
-  pub after : w.core ≡ pass_after (levels_of v.layout) e found v.core
+  pub at : place_of v.layout.rows v.layout.passes e ≡ place
+  pub now : number_after e found ≡ number
+  pub after : w.core ≡ pass_after v.layout.levels e found v.core
+
+abbrev pub KeepsLists : Event → Type 0
+KeepsLists e = (free : List ℕ) (limbo : List PutRow) → (free_after e free ≡ free) × (limbo_after e limbo ≡ limbo)

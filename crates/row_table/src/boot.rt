@@ -6,7 +6,7 @@ ghost use Rattle.walk_core.specs.Words.{word_count};
 ghost use Rattle.walk_core.specs.Core.{word};
 ghost use Rattle.row_layout.specs.Places.{IsLayout};
 ghost use Rattle.row_table.specs.Rule.{unmoved, boot_from};
-ghost use Rattle.row_table.specs.Passes.{view_of, number_of, kit_of, layout_of, IsPassOf};
+ghost use Rattle.row_table.specs.Passes.{view_of, number_of, kit_of, layout_of, origin_of, IsPassOf};
 ghost use Rattle.row_table.specs.Start.{MayStart, start_words, start_slots, first_pass, other_passes};
 
 use crate::pass::Pass;
@@ -48,7 +48,7 @@ fn boot_words(alloc: Global, layout: &Layout) -> Result<Vec<u64>, AllocError>
     requires { IsLayout layout.now }
     ensures { IfOk result (λ words. words.items ≡ start_words layout.now) }
 {
-    let start = Core::boot(alloc, layout.rows, layout.passes)?;
+    let start = Core::boot(alloc, layout.rows, layout.passes, layout.levels)?;
     words_of(alloc, &start, layout.book() + 1)
 }
 
@@ -89,6 +89,7 @@ impl<P: Plan> Iron<P> {
         Pass {
             seat: self.table.shared.split_seat::<Apart>(seat),
             number,
+            epoch: 0,
             rows: self.layout.rows,
             stack,
             kit: Some(kit),
@@ -96,7 +97,6 @@ impl<P: Plan> Iron<P> {
     }
 }
 
-#[tactic(auto, unfolding(crate::specs::Passes::model_of, crate::specs::Passes::iron_model))]
 impl<P: Plan> Iron<P> {
     // A seat and a kit for each pass.
     fn deal(
@@ -138,6 +138,7 @@ impl<P: Plan> Iron<P> {
         requires starts { MayStart P.meaning layout rows.items book }
         requires kits { length kits.items ≡ layout.passes }
         ensures layout { IfOk result (λ made. layout_of made.0 ≡ layout) }
+        ensures origin { IfOk result (λ made. origin_of made.0 ≡ Some book) }
         ensures numbers { IfOk result (λ made. map (λ p. number_of p) made.1.items ≡ range_with_len 0 layout.passes) }
         ensures kits { IfOk result (λ made. map (λ p. kit_of p) made.1.items ≡ map (λ kit. Some kit) kits.items) }
         ensures views { IfOk result (λ made. All (λ p. IsPassOf made.0 p × (view_of p ≡ unmoved layout (Some book) (number_of p))) made.1.items) }

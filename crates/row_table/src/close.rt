@@ -69,6 +69,7 @@ impl<P: Plan> Iron<P> {
             let Pass {
                 seat: other,
                 number: _,
+                epoch: _,
                 rows: _,
                 stack: _,
                 kit: _,

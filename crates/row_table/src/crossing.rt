@@ -15,14 +15,6 @@ use std::collections::LinkedList;
 /// An epoch word that stands here counts no more.
 const LAST: u64 = 1 << 62;
 
-pub struct ReadEpoch;
-
-impl<R: Drop, B: Drop, E> Play<Option<Content<R, B>>, LinkedList<PassView<R, B, E>>> for ReadEpoch {
-    ghost use Rattle.row_table.specs.Crossings.{EpochTells};
-
-    ghost then = { λ _. EpochTells };
-}
-
 pub struct Enter;
 
 impl<R: Drop, B: Drop, E> Play<Option<Content<R, B>>, LinkedList<PassView<R, B, E>>> for Enter {
@@ -41,7 +33,7 @@ impl<R: Drop, B: Drop, E> Play<Option<Content<R, B>>, LinkedList<PassView<R, B, 
 
 #[tactic(auto, unfolding(crate::specs::Passes::model_of, crate::specs::Passes::iron_model))]
 impl<P: Plan> Pass<P> {
-    /// Goes inside: the pass stands on row 0. A worn epoch word counts no more, and then nothing changes.
+    /// Goes inside, by one step on the own epoch word: the pass stands on row 0. A worn word counts no more, and then no step is taken.
     pub fn enter(&mut self, iron: &Iron<P>) -> Result<(), Worn>
         requires table { IsPassOf iron.now self.old }
         requires outside { (view_of self.old).core.stand ≡ None }
@@ -51,14 +43,14 @@ impl<P: Plan> Pass<P> {
         ensures right { IsRight (view_of self.old) }
         ensures enters { Enters (view_of self.old) result (view_of self.new) }
     {
-        let word = iron.layout.epoch(self.number) as usize;
-        let found = iron.table.shared.load::<ReadEpoch>(&mut self.seat, word);
-        if found == LAST {
+        if self.epoch == LAST {
             return Err(Worn);
         }
+        let word = iron.layout.epoch(self.number) as usize;
         iron.table
             .shared
             .fetch_add::<Enter>(&mut self.seat, word, 1);
+        self.epoch += 1;
         Ok(())
     }
 
@@ -74,5 +66,6 @@ impl<P: Plan> Pass<P> {
         iron.table
             .shared
             .fetch_add::<Leave>(&mut self.seat, word, 1);
+        self.epoch += 1;
     }
 }

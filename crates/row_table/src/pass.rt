@@ -59,13 +59,15 @@ impl<P: Plan> Play<Slot<P>, Views<P>> for Give<P> {
 pub struct Pass<P: Plan> {
     pub(crate) seat: Seat<Slot<P>, Views<P>>,
     pub(crate) number: u8,
+    // That of the own epoch word.
+    pub(crate) epoch: u64,
     // How many rows the table has.
     pub(crate) rows: u32,
     // The slots that are out, the last taken first. The book's is behind those of all rows.
     pub(crate) stack: VecDeque<u32>,
     pub(crate) kit: Option<P::Kit>,
     ghost one: { IsOne number seat.me },
-    ghost sized: { IsSized number rows seat.table_id (view seat.me) },
+    ghost sized: { IsSized number rows epoch seat.table_id (view seat.me) },
     ghost stacked: { seat.me.1 ≡ outs stack.items },
     ghost carries: { SameRows stack.items (carried rows (view seat.me).core.held (view seat.me).core.has_book) },
     ghost held: { AreRows rows (view seat.me).core.held },
@@ -122,7 +124,7 @@ impl<P: Plan> Pass<P> {
 
 #[tactic(auto, unfolding(crate::specs::Passes::model_of, crate::specs::Passes::iron_model))]
 impl<P: Plan> Pass<P> {
-    ghost use Rattle.row_table.specs.Passes.{view_of, kit_of, table_of, layout_of, IsPassOf};
+    ghost use Rattle.row_table.specs.Passes.{view_of, kit_of, table_of, layout_of, origin_of, IsPassOf};
 
     /// Takes the book if no pass has it.
     pub fn turn(&mut self, iron: &Iron<P>) -> Turned<P::Book>
@@ -131,6 +133,7 @@ impl<P: Plan> Pass<P> {
         ensures table { table_of self.new ≡ table_of self.old }
         ensures same { kit_of self.new ≡ kit_of self.old }
         ensures layout { (view_of self.old).layout ≡ layout_of iron.now }
+        ensures origin { (view_of self.old).origin ≡ origin_of iron.now }
         ensures turns { Turns P.meaning (layout_of iron.now).rows (view_of self.old) result (view_of self.new) }
     {
         let word = iron.layout.book() as usize;

@@ -18,7 +18,6 @@ use Rattle.walk_core.proofs.Spellings.{link_word_is, link_row-link_word, link_ge
 use Rattle.row_layout.specs.declared.places.Layout.{Layout}
 use Rattle.row_table.specs.declared.view.HeldRow.{HeldRow}
 use Rattle.row_table.specs.declared.view.HandRow.{HandRow}
-use Rattle.row_table.specs.Rule.{levels_of}
 use Rattle.row_table.specs.Vacant.{blank_words}
 use Rattle.row_table.specs.Moves.{grabbed, got, released, Finds, Fits, NotInHand}
 use Rattle.row_table.specs.Crossings.{entered, left}
@@ -46,34 +45,35 @@ root_is_one = refl
 
 -- where the first look led it
 stands_there : (v1 v2 : View) (n : ℕ) (p : Place) → v1.core.stand ≡ Some top → v2 ≡ looked_at v1 0 p 0 n → n ≡ root_link
-    → v2.core.stand ≡ Some (record { row = 1; place = entry_place (levels_of v1.layout) directory 0; generation = link_generation root_link })
+    → v2.core.stand ≡ Some (record { row = 1; place = entry_place v1.layout.levels directory 0; generation = link_generation root_link })
 stands_there v1 v2 n p at e is =
-    ap (λ (v : View). v.core.stand) e ∙ ((λ j. stand_after_look (levels_of v1.layout) 0 0 (is j) (at j))
-    ∙ ap (λ (b : Bool). cond b (Some (record { row = 1; place = entry_place (levels_of v1.layout) directory 0; generation = link_generation root_link })) (Some top)) root_is_link)
+    ap (λ (v : View). v.core.stand) e ∙ ((λ j. stand_after_look v1.layout.levels 0 0 (is j) (at j))
+    ∙ ap (λ (b : Bool). cond b (Some (record { row = 1; place = entry_place v1.layout.levels directory 0; generation = link_generation root_link })) (Some top)) root_is_link)
 
 pub stands_on_root : (v1 v2 : View) (n : ℕ) (p : Place) → v1.core.stand ≡ Some top → v2 ≡ looked_at v1 0 p 0 n → n ≡ root_link → StandsOn v2.core 1
-stands_on_root v1 v2 n p at e is = (record { row = 1; place = entry_place (levels_of v1.layout) directory 0; generation = link_generation root_link }, stands_there v1 v2 n p at e is, refl)
+stands_on_root v1 v2 n p at e is = (record { row = 1; place = entry_place v1.layout.levels directory 0; generation = link_generation root_link }, stands_there v1 v2 n p at e is, refl)
 
 pub holds_it : (v2 v3 v4 : View) (f : Finds 1 v2) (x : ℕ) → v3 ≡ got v2 1 f.place f.generation f.words x → v4 ≡ left v3 → Has v4.core.held 1
 holds_it v2 v3 v4 f x e3 e4 = let same = ap (times 1) (ap (λ (v : View). v.core.held) e4 ∙ ap (λ (v : View). v.core.held) e3) in let more = times-append 1 v2.core.held (1 ∷ []) in let one = times_one_same 1 1 refl in omega arith
 
-pub took : (v0 v1 v2 v3 v4 v5 : View) (n m x : ℕ) (p : Place) → IsIdle v0 → v1 ≡ entered v0 → v2 ≡ looked_at v1 0 p 0 n → n ≡ root_link → (f : Finds 1 v2) → v3 ≡ got v2 1 f.place f.generation f.words x → v4 ≡ left v3
+pub took : (v0 v1 v2 v3 v4 v5 : View) (n m x : ℕ) (p : Place) → v0.layout.levels ≡ 4 → IsIdle v0 → v1 ≡ entered v0 → v2 ≡ looked_at v1 0 p 0 n → n ≡ root_link → (f : Finds 1 v2) → v3 ≡ got v2 1 f.place f.generation f.words x → v4 ≡ left v3
     → (r : Reads v4 1 5 m) → v5 ≡ looked_at v4 1 r.place 5 m → m ≡ 0 → HasRoot v5 0 (1 ∷ []) [] [] false
-took v0 v1 v2 v3 v4 v5 n m x p idle e1 e2 is f e3 e4 r e5 z =
+took v0 v1 v2 v3 v4 v5 n m x p levels idle e1 e2 is f e3 e4 r e5 z =
     let g : HeldRow ℕ = grabbed 1 f.place f.generation f.words x in
     let here : Contains v4.rows g = subst (λ (l : List (HeldRow ℕ)). Contains l g) (sym (ap (λ (v : View). v.rows) e4 ∙ ap (λ (v : View). v.rows) e3)) (Contains-append_right v2.rows (g ∷ []) g (in_head g [])) in
     let stand = stands_there v1 v2 n p (ap (λ (v : View). v.core.stand) e1) e2 is in
     let layout : v5.layout ≡ v1.layout = ap (λ (v : View). v.layout) e5 ∙ (ap (λ (v : View). v.layout) e4 ∙ (ap (λ (v : View). v.layout) e3 ∙ ap (λ (v : View). v.layout) e2)) in
     record {
+      four = ap (λ (y : Layout). y.levels) (layout ∙ ap (λ (v : View). v.layout) e1) ∙ levels;
       row_one = g;
       there = subst (λ (l : List (HeldRow ℕ)). Contains l g) (sym (ap (λ (v : View). v.rows) e5)) here;
       number = refl;
-      place = f.known.of_stand _ stand refl ∙ ap (λ (y : Layout). entry_place (levels_of y) directory 0) (sym layout);
+      place = f.known.of_stand _ stand refl ∙ ap (λ (y : Layout). entry_place y.levels directory 0) (sym layout);
       word_five = sym (r.holds g here refl) ∙ z;
       is_given = refl;
       last = λ e. absurd (cc);
       held = ap (λ (v : View). v.core.held) e5 ∙ (ap (λ (v : View). v.core.held) e4 ∙ (ap (λ (v : View). v.core.held) e3 ∙ ap (λ (l : List ℕ). l ++ 1 ∷ []) (ap (λ (v : View). v.core.held) e2 ∙ (ap (λ (v : View). v.core.held) e1 ∙ idle.held))));
-      outside = ap (λ (v : View). v.core.stand) e5 ∙ ap (stand_after_look (levels_of v4.layout) 1 5 m) (ap (λ (v : View). v.core.stand) e4);
+      outside = ap (λ (v : View). v.core.stand) e5 ∙ ap (stand_after_look v4.layout.levels 1 5 m) (ap (λ (v : View). v.core.stand) e4);
       granted = ap (λ (v : View). v.core.granted) e5 ∙ (ap (λ (v : View). v.core.granted) e4 ∙ (ap (λ (v : View). v.core.granted) e3 ∙ (ap (λ (v : View). v.core.granted) e2 ∙ (ap (λ (v : View). v.core.granted) e1 ∙ idle.granted))));
       unlinked = ap (λ (v : View). v.core.unlinked) e5 ∙ (ap (λ (v : View). v.core.unlinked) e4 ∙ (ap (λ (v : View). v.core.unlinked) e3 ∙ (ap (λ (v : View). v.core.unlinked) e2 ∙ (ap (λ (v : View). v.core.unlinked) e1 ∙ idle.unlinked))));
       has_not = ap (λ (v : View). v.core.has_book) e5 ∙ (ap (λ (v : View). v.core.has_book) e4 ∙ (ap (λ (v : View). v.core.has_book) e3 ∙ (ap (λ (v : View). v.core.has_book) e2 ∙ (ap (λ (v : View). v.core.has_book) e1 ∙ idle.has_not))));
@@ -86,10 +86,11 @@ pub given_root : (v0 v1 v2 : View) (book new : Stock) (us : List UnlinkedRow) (g
 given_root v0 v1 v2 book new us gs ws b root e1 g granted unlinked =
     let layout : v2.layout ≡ v0.layout = ap (λ (v : View). v.layout) g.after ∙ ap (λ (v : View). v.layout) e1 in
     record {
+      four = ap (λ (y : Layout). y.levels) layout ∙ root.four;
       row_one = given root.row_one;
       there = subst (λ (l : List (HeldRow ℕ)). Contains l (given root.row_one)) (sym (ap (λ (v : View). v.rows) g.after ∙ ap (λ (v : View). map given v.rows) e1)) (in_map given v0.rows root.row_one root.there);
       number = root.number;
-      place = root.place ∙ ap (λ (y : Layout). entry_place (levels_of y) directory 0) (sym layout);
+      place = root.place ∙ ap (λ (y : Layout). entry_place y.levels directory 0) (sym layout);
       word_five = root.word_five;
       is_given = refl;
       last = λ _. (new, ap (λ (v : View). v.last) g.after);
@@ -138,13 +139,11 @@ granted_one k rows v0 v1 v2 book new row b root learns e1 g next front limbo sma
 abbrev pub child_place : Place
 child_place = record { space = 0; level = 3; prefix = 5 }
 
-child_is_place : (k : Layout) → is_place (levels_of k) child_place ≡ true
-unfolding levels_of
-child_is_place k = refl
+child_is_place : (k : Layout) → k.levels ≡ 4 → is_place k.levels child_place ≡ true
+child_is_place k four = subst (λ (n : ℕ). is_place n child_place ≡ true) (sym four) refl
 
-child_below : (k : Layout) → child_place ≡ entry_place (levels_of k) (entry_place (levels_of k) directory 0) 5
-unfolding levels_of
-child_below k = refl
+child_below : (k : Layout) → k.levels ≡ 4 → child_place ≡ entry_place k.levels (entry_place k.levels directory 0) 5
+child_below k four = subst (λ (n : ℕ). child_place ≡ entry_place n (entry_place n directory 0) 5) (sym four) refl
 
 -- a word that is a link of the row with the generation
 record IsLinkOf (word row generation : ℕ) : Type 0 where
@@ -169,7 +168,7 @@ may_prepare v row g may = record {
   in_hand = may.in_hand;
   same_row = may.same_row;
   closed = ap (times row) may.root.held ∙ row_has row may.other;
-  is_place = child_is_place v.layout;
+  is_place = child_is_place v.layout may.root.four;
   above = may.above;
   low = may.low;
   high = may.high;
@@ -268,7 +267,7 @@ may_link_one v v1 v2 row g word may e1 at e2 is =
         hand_row = o.hand_row;
         granted = o.in_hand;
         same_row = o.same_row ∙ sym l.to_row;
-        place = o.child_place ∙ (child_below v.layout ∙ (λ j. entry_place (levels_of (sym o.layout j)) (sym root.place j) 5));
+        place = o.child_place ∙ (child_below v.layout root.four ∙ (λ j. entry_place (sym o.layout j).levels (sym root.place j) 5));
         generation = o.generation ∙ sym l.with_generation;
       }));
     }
@@ -305,10 +304,11 @@ link_one v v1 v2 v3 row g word may e1 at e2 is sets =
     let done : GrantedRow = record { row = row; has_position = true; has_generation = true } in
     let long = may.long in let five : get_or (set r.words 5 word) 5 0 ≡ word = get_or-set_same r.words 5 word 0 (omega arith) in
     record {
+      four = ap (λ (y : Layout). y.levels) layout ∙ root.four;
       linker = record z { vacant = without 5 r.vacant };
       there = subst (λ (xs : List (HeldRow ℕ)). Contains xs (record z { vacant = without 5 r.vacant })) (sym rows) (subst (Contains (map f v2.rows)) root_is (in_map f v2.rows r (o.root_there r root.there)));
       number = root.number;
-      place = root.place ∙ ap (λ (y : Layout). entry_place (levels_of y) directory 0) (sym layout);
+      place = root.place ∙ ap (λ (y : Layout). entry_place y.levels directory 0) (sym layout);
       long = length-set r.words 5 word ∙ may.long;
       link = ap is_link five ∙ l.link;
       to_row = ap link_row five ∙ l.to_row;
@@ -366,10 +366,11 @@ module _ (v3 v4 v5 : View) (row : ℕ) (o : HasGraft v3 row) where
         let layout : v5.layout ≡ v3.layout = ap (λ (u : View). u.layout) e5 ∙ ap (λ (u : View). u.layout) cut_is in
         let other : eqb y.row row ≡ false = ne_eqb y.row row (λ e. o.other (sym e ∙ o.number)) in
         record {
+          four = ap (λ (y : Layout). y.levels) layout ∙ o.four;
           row_one = y;
           there = subst (λ (xs : List (HeldRow ℕ)). Contains xs y) (sym (ap (λ (u : View). u.rows) e5)) (kept_in (λ (h : HeldRow ℕ). not (eqb h.row row)) v4.rows y there4 (ap not other));
           number = o.number;
-          place = o.place ∙ ap (λ (k : Layout). entry_place (levels_of k) directory 0) (sym layout);
+          place = o.place ∙ ap (λ (k : Layout). entry_place k.levels directory 0) (sym layout);
           word_five = get_or-set_same r.words 5 0 0 (omega arith);
           is_given = o.is_given;
           last = λ _. (o.last.0, ap (λ (u : View). u.last) e5 ∙ (ap (λ (u : View). u.last) cut_is ∙ o.last.1));

@@ -15,7 +15,6 @@ use Rattle.row_table.specs.declared.view.HeldRow.{HeldRow}
 use Rattle.row_table.specs.declared.view.HandRow.{HandRow}
 use Rattle.row_uses.specs.declared.sowing.Seeds.{Seeds}
 use Rattle.row_uses.specs.declared.sowing.Lack.{Lack}
-use Rattle.row_table.specs.Rule.{levels_of}
 use Rattle.row_table.specs.Vacant.{vacant_entries}
 use Rattle.row_table.specs.Moves.{released, Fits, NotInHand}
 use Rattle.row_table.specs.Books.{given, taken_rows, turned, Learns, Gives, MayGive, region}
@@ -67,8 +66,8 @@ module _ (v0 v1 v2 : View) (book new : Seeds) (row : ℕ) (first second : Bed) (
   abbrev h : HeldRow Bool
   h = may.one.known
 
-  tables : Splits (levels_of v0.layout) h.place
-  tables = splits (levels_of v0.layout) h.place first.index (few_levels v0.layout) (subst (λ (p : Place). is_place (levels_of v0.layout) p ≡ true) may.one.below may.one.is_place)
+  tables : Splits v0.layout.levels h.place
+  tables = splits v0.layout.levels h.place first.index (few_levels v0.layout learns.right.levels) (subst (λ (p : Place). is_place v0.layout.levels p ≡ true) may.one.below may.one.is_place)
 
   free_once : (q : ℕ) → times q book.free.items ≤ 1
   free_once q = let o = learns.once q in omega arith
@@ -79,9 +78,9 @@ module _ (v0 v1 v2 : View) (book new : Seeds) (row : ℕ) (first second : Bed) (
   layout1 : v1.layout ≡ v0.layout
   layout1 = ap (λ (v : View). v.layout) e1
 
-  not_untouched : (index : ℕ) (place : Place) → index < 512 → is_link (get_or h.words index 0) ≡ false → place ≡ entry_place (levels_of v0.layout) h.place index → IsUntouched (region v1) place → ⊥
-  not_untouched index place inside none below = subst (λ (p : Place). IsUntouched (region v1) p → ⊥) (ap (λ (y : Layout). entry_place (levels_of y) h.place index) layout1 ∙ sym below)
-      (touched v1 h index (ap (λ (v : View). v.rows) e1 ∙ may.one.alone.rows) out inside none (subst (λ (y : Layout). Splits (levels_of y) h.place) (sym layout1) tables))
+  not_untouched : (index : ℕ) (place : Place) → index < 512 → is_link (get_or h.words index 0) ≡ false → place ≡ entry_place v0.layout.levels h.place index → IsUntouched (region v1) place → ⊥
+  not_untouched index place inside none below = subst (λ (p : Place). IsUntouched (region v1) p → ⊥) (ap (λ (y : Layout). entry_place y.levels h.place index) layout1 ∙ sym below)
+      (touched v1 h index (ap (λ (v : View). v.rows) e1 ∙ may.one.alone.rows) out inside none (subst (λ (y : Layout). Splits y.levels h.place) (sym layout1) tables))
     where
       out : NotInHand v1 h.row
       out = let x = ap (λ gs. times h.row (map (λ (g : GrantedRow). g.row) gs)) (ap (λ (v : View). v.core.granted) e1 ∙ may.one.alone.granted) in
@@ -163,7 +162,7 @@ module _ (v0 v1 v2 : View) (book new : Seeds) (row : ℕ) (first second : Bed) (
       in_hand = subst (λ (l : List HandRow). Contains l (fresh b.0)) (sym stage2.hand_is) (in_head (fresh b.0) (fresh a.0 ∷ []));
       same_row = refl;
       closed = ap (times b.0) stage2.held_are ∙ times_one_other b.0 h.row other_b;
-      is_place = subst (λ (k : Layout). is_place (levels_of k) second.place ≡ true) (sym stage2.layout) may.is_place;
+      is_place = subst (λ (k : Layout). is_place k.levels second.place ≡ true) (sym stage2.layout) may.is_place;
       above = above b.0 b.1 has_b (let n = draws.number_after in omega arith);
       low = (let n = draws.number_after in let same = numbers.0 in omega arith);
       high = (let n = draws.number_after in let same = numbers.1 in omega arith);
@@ -182,7 +181,7 @@ module _ (v0 v1 v2 : View) (book new : Seeds) (row : ℕ) (first second : Bed) (
         in_hand = subst (λ (l : List HandRow). Contains l (fresh a.0)) (sym stage3.hand_is) (in_tail ready_b (fresh a.0 ∷ []) (fresh a.0) (in_head (fresh a.0) []));
         same_row = refl;
         closed = ap (times a.0) stage3.held_are ∙ times_one_other a.0 h.row other_a;
-        is_place = subst (λ (k : Layout). is_place (levels_of k) first.place ≡ true) (sym stage3.layout) may.one.is_place;
+        is_place = subst (λ (k : Layout). is_place k.levels first.place ≡ true) (sym stage3.layout) may.one.is_place;
         above = above a.0 a.1 has_a (let n = draws.number in omega arith);
         low = (let n = draws.number in let same = numbers.0 in omega arith);
         high = (let n = draws.number in let same = numbers.1 in omega arith);
@@ -200,7 +199,7 @@ module _ (v0 v1 v2 : View) (book new : Seeds) (row : ℕ) (first second : Bed) (
       free_entry : Has (vacant_entries h.words) first.index
       free_entry = is_vacant h.words first.index may.one.inside may.one.no_link
 
-      below_a : first.place ≡ entry_place (levels_of v0.layout) (given h).place first.index
+      below_a : first.place ≡ entry_place v0.layout.levels (given h).place first.index
       below_a = may.one.below
 
       module _ (v5 v6 v7 : View) (at : IsSetUp v4 a.0) (e5 : v5 ≡ opened v4 a.0 at.place at.known.generation) (one : ℕ) (is : one ≡ link_word a.0 a.1) where
@@ -291,7 +290,7 @@ module _ (v0 v1 v2 : View) (book new : Seeds) (row : ℕ) (first second : Bed) (
                         has_not = s.has_not;
                       }
 
-                  elsewhere : (i : ℕ) (p : Place) → p ≡ entry_place (levels_of v0.layout) h.place i → h.place ≢ p
+                  elsewhere : (i : ℕ) (p : Place) → p ≡ entry_place v0.layout.levels h.place i → h.place ≢ p
                   elsewhere i p below e = let less = tables.less i in let level = ap (λ (q : Place). q.level) (e ∙ below) in omega arith
 
                   pub are_sown : AreSown v0 h first second a.0 b.0 v10

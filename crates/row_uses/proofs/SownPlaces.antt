@@ -12,7 +12,6 @@ use Rattle.row_layout.specs.declared.places.Layout.{Layout}
 use Rattle.row_table.specs.declared.view.HeldRow.{HeldRow}
 use Rattle.row_uses.specs.declared.sowing.Seeds.{Seeds}
 use Rattle.row_table.specs.Plan.{IsOutside, IsUntouched, Covers}
-use Rattle.row_table.specs.Rule.{levels_of}
 use Rattle.row_table.specs.Moves.{NotInHand}
 use Rattle.row_table.specs.Books.{IsHeldAt, region}
 use Rattle.row_uses.specs.Sown.{View, same_place, lists, KeepsListed}
@@ -21,9 +20,8 @@ use Rattle.table_place.proofs.Entries.{level_of, below_is, entry_page, first_pag
 
 -- The tables below a row
 
-pub few_levels : (k : Layout) → levels_of k < 6
-unfolding levels_of
-few_levels k = omega arith
+pub few_levels : (k : Layout) → (4 ≤ k.levels) × (k.levels ≤ 5) → k.levels < 6
+few_levels k is = let high = is.1 in omega arith
 
 pub record Splits (levels : ℕ) (p : Place) : Type 0 where
   pub level : (i j : ℕ) → (entry_place levels p i).level ≡ (entry_place levels p j).level
@@ -66,9 +64,9 @@ pub only_row : {X : Type 0} (xs : List X) (x y : X) → xs ≡ x ∷ [] → Cont
 only_row xs x y is i = ⊎_elim (λ (e : x ≡ y). sym e) (λ (l : Contains [] y). let less = l.1 in absurd (omega arith)) (head_or_later x [] y (subst (λ l. Contains l y) is i))
 
 module _ (v : View) (h : HeldRow Bool) (index : ℕ) (rows : v.rows ≡ h ∷ []) (hand : NotInHand v h.row) (inside : index < 512) (none : is_link (get_or h.words index 0) ≡ false)
-    (s : Splits (levels_of v.layout) h.place) where
+    (s : Splits v.layout.levels h.place) where
   abbrev entry : ℕ → Place
-  entry i = entry_place (levels_of v.layout) h.place i
+  entry i = entry_place v.layout.levels h.place i
 
   other_page : (j space page : ℕ) → j ≢ index → has_page (entry j) space page ≡ true → has_page (entry index) space page ≡ true → ⊥
   other_page j space page ne a b = ne (s.apart j index (same_span (entry j) (entry index) space page (s.low j) (s.level j index) a b))
@@ -82,7 +80,7 @@ module _ (v : View) (h : HeldRow Bool) (index : ℕ) (rows : v.rows ≡ h ∷ []
         λ q b. ⊎_elim
             (λ (has : has_page q space page ≡ true).
             let same : b.linker ≡ h = only_row v.rows h b.linker rows b.held in
-            let q_is : q ≡ entry b.index = b.place ∙ ap (λ (x : HeldRow Bool). entry_place (levels_of v.layout) x.place b.index) same in
+            let q_is : q ≡ entry b.index = b.place ∙ ap (λ (x : HeldRow Bool). entry_place v.layout.levels x.place b.index) same in
             let ne : b.index ≢ index = λ e. (let clash : true ≡ false = sym b.link ∙ ((λ k. is_link (get_or ((ap (λ (x : HeldRow Bool). x.words) same) k) (e k) 0)) ∙ none) in cc) in
             absurd (other_page b.index space page ne (ap (λ (x : Place). has_page x space page) (sym q_is) ∙ has) at))
             (λ (no_page : has_page q space page ≡ false). no_page) (cases_Bool (has_page q space page)),

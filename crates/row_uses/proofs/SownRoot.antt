@@ -16,7 +16,7 @@ use Rattle.walk_core.proofs.RowLists.{times-nil, times-append, times_one_same, i
 use Rattle.walk_core.proofs.Spellings.{zero_no_link}
 use Rattle.row_layout.specs.declared.places.Layout.{Layout}
 use Rattle.row_table.specs.declared.view.HeldRow.{HeldRow}
-use Rattle.row_table.specs.Rule.{levels_of, row_part}
+use Rattle.row_table.specs.Rule.{row_part}
 use Rattle.row_table.specs.Known.{IsRight}
 use Rattle.row_table.specs.Moves.{grabbed, got, released, Finds, Fits, NotInHand}
 use Rattle.row_table.specs.Crossings.{entered, left}
@@ -31,43 +31,40 @@ use Rattle.row_uses.proofs.SownSteps.{still_kept}
 use Rattle.row_uses.proofs.Visits.{empty_map}
 
 -- where the first look led it
-stands_there : (v1 v2 : View) (n : ℕ) (p : Place) → v1.core.stand ≡ Some top → v2 ≡ looked_at v1 0 p 0 n → n ≡ root_link
-    → v2.core.stand ≡ Some (record { row = 1; place = entry_place (levels_of v1.layout) directory 0; generation = link_generation root_link })
+pub stands_there : (v1 v2 : View) (n : ℕ) (p : Place) → v1.core.stand ≡ Some top → v2 ≡ looked_at v1 0 p 0 n → n ≡ root_link
+    → v2.core.stand ≡ Some (record { row = 1; place = entry_place v1.layout.levels directory 0; generation = link_generation root_link })
 stands_there v1 v2 n p at e is =
-    ap (λ (v : View). v.core.stand) e ∙ ((λ j. stand_after_look (levels_of v1.layout) 0 0 (is j) (at j))
-    ∙ ap (λ (b : Bool). cond b (Some (record { row = 1; place = entry_place (levels_of v1.layout) directory 0; generation = link_generation root_link })) (Some top)) root_is_link)
+    ap (λ (v : View). v.core.stand) e ∙ ((λ j. stand_after_look v1.layout.levels 0 0 (is j) (at j))
+    ∙ ap (λ (b : Bool). cond b (Some (record { row = 1; place = entry_place v1.layout.levels directory 0; generation = link_generation root_link })) (Some top)) root_is_link)
 
 pub stands_on_root : (v1 v2 : View) (n : ℕ) (p : Place) → v1.core.stand ≡ Some top → v2 ≡ looked_at v1 0 p 0 n → n ≡ root_link → StandsOn v2.core 1
-stands_on_root v1 v2 n p at e is = (record { row = 1; place = entry_place (levels_of v1.layout) directory 0; generation = link_generation root_link }, stands_there v1 v2 n p at e is, refl)
+stands_on_root v1 v2 n p at e is = (record { row = 1; place = entry_place v1.layout.levels directory 0; generation = link_generation root_link }, stands_there v1 v2 n p at e is, refl)
 
 pub holds_it : (v2 v3 v4 : View) (f : Finds 1 v2) (x : Bool) → v3 ≡ got v2 1 f.place f.generation f.words x → v4 ≡ left v3 → Has v4.core.held 1
 holds_it v2 v3 v4 f x e3 e4 = let same = ap (times 1) (ap (λ (v : View). v.core.held) e4 ∙ ap (λ (v : View). v.core.held) e3) in let more = times-append 1 v2.core.held (1 ∷ []) in let one = times_one_same 1 1 refl in omega arith
 
-bed_below : (k : Layout) → bed ≡ entry_place (levels_of k) (entry_place (levels_of k) directory 0) 5
-unfolding levels_of
-bed_below k = refl
+bed_below : (k : Layout) → k.levels ≡ 4 → bed ≡ entry_place k.levels (entry_place k.levels directory 0) 5
+bed_below k four = subst (λ (n : ℕ). bed ≡ entry_place n (entry_place n directory 0) 5) (sym four) refl
 
-pub next_below : (k : Layout) → next_bed ≡ entry_place (levels_of k) (entry_place (levels_of k) directory 0) 6
-unfolding levels_of
-next_below k = refl
+pub next_below : (k : Layout) → k.levels ≡ 4 → next_bed ≡ entry_place k.levels (entry_place k.levels directory 0) 6
+next_below k four = subst (λ (n : ℕ). next_bed ≡ entry_place n (entry_place n directory 0) 6) (sym four) refl
 
-pub next_is_place : (k : Layout) → is_place (levels_of k) next_bed ≡ true
-unfolding levels_of
-next_is_place k = refl
+pub next_is_place : (k : Layout) → k.levels ≡ 4 → is_place k.levels next_bed ≡ true
+next_is_place k four = subst (λ (n : ℕ). is_place n next_bed ≡ true) (sym four) refl
 
-bed_is_place : (k : Layout) → is_place (levels_of k) bed ≡ true
-unfolding levels_of
-bed_is_place k = refl
+bed_is_place : (k : Layout) → k.levels ≡ 4 → is_place k.levels bed ≡ true
+bed_is_place k four = subst (λ (n : ℕ). is_place n bed ≡ true) (sym four) refl
 
-pub took : (v0 v1 v2 v3 v4 v5 : View) (n m : ℕ) (x : Bool) (p : Place) → IsIdle v0 → IsRight v0 → v1 ≡ entered v0 → v2 ≡ looked_at v1 0 p 0 n → n ≡ root_link → (f : Finds 1 v2) → v3 ≡ got v2 1 f.place f.generation f.words x → v4 ≡ left v3
+pub took : (v0 v1 v2 v3 v4 v5 : View) (n m : ℕ) (x : Bool) (p : Place) → v0.layout.levels ≡ 4 → IsIdle v0 → IsRight v0 → v1 ≡ entered v0 → v2 ≡ looked_at v1 0 p 0 n → n ≡ root_link → (f : Finds 1 v2) → v3 ≡ got v2 1 f.place f.generation f.words x → v4 ≡ left v3
     → (r : Reads v4 1 5 m) → v5 ≡ looked_at v4 1 r.place 5 m → m ≡ 0 → HasRoot v5 x
-took v0 v1 v2 v3 v4 v5 n m x p idle right e1 e2 is f e3 e4 r e5 z =
+took v0 v1 v2 v3 v4 v5 n m x p levels idle right e1 e2 is f e3 e4 r e5 z =
     let g : HeldRow Bool = grabbed 1 f.place f.generation f.words x in
     let rows4 : v4.rows ≡ g ∷ [] = ap (λ (v : View). v.rows) e4 ∙ (ap (λ (v : View). v.rows) e3 ∙ ap (λ (l : List (HeldRow Bool)). l ++ g ∷ []) (ap (λ (v : View). v.rows) e2 ∙ (ap (λ (v : View). v.rows) e1 ∙ empty_map row_part v0.rows (right.rows ∙ idle.held)))) in
     let here : Contains v4.rows g = subst (λ (l : List (HeldRow Bool)). Contains l g) (sym rows4) (in_head g []) in
     let stand = stands_there v1 v2 n p (ap (λ (v : View). v.core.stand) e1) e2 is in
     let layout : v5.layout ≡ v1.layout = ap (λ (v : View). v.layout) e5 ∙ (ap (λ (v : View). v.layout) e4 ∙ (ap (λ (v : View). v.layout) e3 ∙ ap (λ (v : View). v.layout) e2)) in
-    let at : f.place ≡ entry_place (levels_of v5.layout) directory 0 = f.known.of_stand _ stand refl ∙ ap (λ (y : Layout). entry_place (levels_of y) directory 0) (sym layout) in
+    let four : v5.layout.levels ≡ 4 = ap (λ (y : Layout). y.levels) (layout ∙ ap (λ (v : View). v.layout) e1) ∙ levels in
+    let at : f.place ≡ entry_place v5.layout.levels directory 0 = f.known.of_stand _ stand refl ∙ ap (λ (y : Layout). entry_place y.levels directory 0) (sym layout) in
     let rows5 : v5.rows ≡ g ∷ [] = ap (λ (v : View). v.rows) e5 ∙ rows4 in
     record {
       may = record {
@@ -82,12 +79,13 @@ took v0 v1 v2 v3 v4 v5 n m x p idle right e1 e2 is f e3 e4 r e5 z =
         same_row = refl;
         inside = omega arith;
         no_link = ap is_link (sym (r.holds g here refl) ∙ z) ∙ zero_no_link;
-        below = bed_below v5.layout ∙ ap (λ (q : Place). entry_place (levels_of v5.layout) q 5) (sym at);
-        is_place = bed_is_place v5.layout;
+        below = bed_below v5.layout four ∙ ap (λ (q : Place). entry_place v5.layout.levels q 5) (sym at);
+        is_place = bed_is_place v5.layout four;
       };
+      four = four;
       place = at;
       fits = record { known = g; held = subst (λ (l : List (HeldRow Bool)). Contains l g) (sym rows5) (in_head g []); same_row = refl; content_fits = inl (refl, refl, refl) };
-      outside = ap (λ (v : View). v.core.stand) e5 ∙ ap (stand_after_look (levels_of v4.layout) 1 5 m) (ap (λ (v : View). v.core.stand) e4);
+      outside = ap (λ (v : View). v.core.stand) e5 ∙ ap (stand_after_look v4.layout.levels 1 5 m) (ap (λ (v : View). v.core.stand) e4);
     }
 
 -- a look at the entry 6
@@ -103,9 +101,10 @@ looked_on v w x m root r e z = subst (λ (u : View). HasBeds u x) (sym e) (recor
       below = root.may.below;
       is_place = root.may.is_place;
     };
+    four = root.four;
     place = root.place;
     fits = record { known = root.fits.known; held = root.fits.held; same_row = root.fits.same_row; content_fits = root.fits.content_fits };
-    outside = ap (stand_after_look (levels_of v.layout) 1 6 m) root.outside;
+    outside = ap (stand_after_look v.layout.levels 1 6 m) root.outside;
   };
   next_free = ap is_link (sym (r.holds root.may.known (subst (λ (l : List (HeldRow Bool)). Contains l root.may.known) (sym root.may.alone.rows) (in_head root.may.known [])) root.may.same_row) ∙ z) ∙ zero_no_link;
 })
@@ -137,8 +136,8 @@ may_both v x beds = record {
   one = beds.root.may;
   inside = omega arith;
   no_link = beds.next_free;
-  below = next_below v.layout ∙ ap (λ (q : Place). entry_place (levels_of v.layout) q 6) (sym beds.root.place);
-  is_place = next_is_place v.layout;
+  below = next_below v.layout beds.root.four ∙ ap (λ (q : Place). entry_place v.layout.levels q 6) (sym beds.root.place);
+  is_place = next_is_place v.layout beds.root.four;
   apart = λ e. omega arith;
 }
 

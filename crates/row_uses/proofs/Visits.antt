@@ -12,7 +12,7 @@ use Rattle.walk_core.proofs.RowLists.{times-nil}
 use Rattle.row_table.specs.declared.view.PassView.{PassView}
 use Rattle.row_table.specs.declared.view.HeldRow.{HeldRow}
 use Rattle.row_table.specs.Plan.{Meaning}
-use Rattle.row_table.specs.Rule.{levels_of, unmoved, row_part}
+use Rattle.row_table.specs.Rule.{unmoved, row_part}
 use Rattle.row_layout.specs.declared.places.Layout.{Layout}
 use Rattle.row_table.specs.Known.{IsKnownPlace, IsHolder, IsLoose, LinksRow}
 use Rattle.row_table.specs.declared.view.Finding.{Finding}
@@ -24,7 +24,6 @@ use Rattle.row_uses.specs.declared.uses.Visit.{Visit}
 use Rattle.row_uses.specs.declared.uses.Visit.TheVariants.{Got, Held, Stale, Worn}
 use Rattle.row_uses.specs.declared.uses.Holder.{Holder}
 use Rattle.row_uses.specs.declared.uses.Unseen.{Unseen}
-use Rattle.row_uses.specs.declared.uses.Unseen.TheVariants as Unseen
 use Rattle.row_uses.specs.Takes.{Takes, Peeks}
 use Rattle.row_uses.specs.Uses.{IsStanding, Notes, came, WentDown, Touched, Went, LookedIn}
 use Rattle.std.proofs.lemmas.Option.{same_Some}
@@ -86,16 +85,16 @@ module _ {R B E : Type 0} where
   went_down v w row index n r at e = record {
     word = n;
     found = ap (λ (z : PassView R B E). z.findings) e ∙ note_is v row n r.place (Some index) at r.known;
-    stands = ap (λ (z : PassView R B E). z.core.stand) e ∙ ((λ j. stand_after_look (levels_of v.layout) (sym at.same_row j) index n (at.on j)) ∙ came_is (levels_of v.layout) index n at.stand);
+    stands = ap (λ (z : PassView R B E). z.core.stand) e ∙ ((λ j. stand_after_look v.layout.levels (sym at.same_row j) index n (at.on j)) ∙ came_is v.layout.levels index n at.stand);
     layout = ap (λ (z : PassView R B E). z.layout) e;
   }
 
   -- where the word is a link the pass stands on the linked row
   pub stands_below : (v w : PassView R B E) (row index n next : ℕ) (r : Reads v row index n) → IsStanding v row → w ≡ looked_at v row r.place index n → is_link n ≡ true → next ≡ link_row n → IsStanding w next
   stands_below v w row index n next r at e link same = record {
-    stand = came (levels_of v.layout) at.stand index n;
-    on = ap (λ (z : PassView R B E). z.core.stand) e ∙ ((λ j. stand_after_look (levels_of v.layout) (sym at.same_row j) index n (at.on j)) ∙ came_is (levels_of v.layout) index n at.stand);
-    same_row = ap (λ (b : Bool). (cond b (record { row = link_row n; place = entry_place (levels_of v.layout) at.stand.place index; generation = link_generation n }) at.stand).row) link ∙ sym same;
+    stand = came v.layout.levels at.stand index n;
+    on = ap (λ (z : PassView R B E). z.core.stand) e ∙ ((λ j. stand_after_look v.layout.levels (sym at.same_row j) index n (at.on j)) ∙ came_is v.layout.levels index n at.stand);
+    same_row = ap (λ (b : Bool). (cond b (record { row = link_row n; place = entry_place v.layout.levels at.stand.place index; generation = link_generation n }) at.stand).row) link ∙ sym same;
     held = ap (λ (z : PassView R B E). z.core.held) e ∙ at.held;
     granted = ap (λ (z : PassView R B E). z.core.granted) e ∙ at.granted;
     unlinked = ap (λ (z : PassView R B E). z.core.unlinked) e ∙ at.unlinked;
@@ -122,24 +121,24 @@ module _ {R B E : Type 0} where
   new_idle k book n v e = subst (λ (u : PassView R B E). IsIdle u) (sym e) (record { outside = refl; held = refl; granted = refl; unlinked = refl; has_not = refl })
 
   -- the whole way
-  went : (v u0 u1 u2 w : PassView R B E) (first second word : ℕ) → u0 ≡ entered v → (one : WentDown u0 top first u1) (two : WentDown u1 (came (levels_of u0.layout) top first one.word) second u2)
-      → Notes u2 (came (levels_of u1.layout) (came (levels_of u0.layout) top first one.word) second two.word) None word w → Went v first second word w
+  went : (v u0 u1 u2 w : PassView R B E) (first second word : ℕ) → u0 ≡ entered v → (one : WentDown u0 top first u1) (two : WentDown u1 (came u0.layout.levels top first one.word) second u2)
+      → Notes u2 (came u1.layout.levels (came u0.layout.levels top first one.word) second two.word) None word w → Went v first second word w
   went v u0 u1 u2 w first second word e one two touched =
       let layout : u0.layout ≡ v.layout = ap (λ (z : PassView R B E). z.layout) e in
-      let between : Stand = came (levels_of u0.layout) top first one.word in
-      let last : Stand = came (levels_of u1.layout) between second two.word in record {
+      let between : Stand = came u0.layout.levels top first one.word in
+      let last : Stand = came u1.layout.levels between second two.word in record {
         link = one.word;
         between = between;
-        is_between = ap (λ (k : Layout). came (levels_of k) top first one.word) layout;
+        is_between = ap (λ (k : Layout). came k.levels top first one.word) layout;
         next = two.word;
         last = last;
-        is_last = ap (λ (k : Layout). came (levels_of k) between second two.word) (one.layout ∙ layout);
+        is_last = ap (λ (k : Layout). came k.levels between second two.word) (one.layout ∙ layout);
         found = touched ∙ ap (λ (l : List Finding). l ++ finding last.row last.place None word ∷ []) (two.found ∙ ap (λ (l : List Finding). l ++ finding between.row between.place (Some second) two.word ∷ [])
             (one.found ∙ ap (λ (l : List Finding). l ++ finding top.row top.place (Some first) one.word ∷ []) (ap (λ (z : PassView R B E). z.findings) e)));
       }
 
-  pub looked_in : (v u0 u1 u2 w : PassView R B E) (first second : ℕ) (answer : Visit) → u0 ≡ entered v → (one : WentDown u0 top first u1) (two : WentDown u1 (came (levels_of u0.layout) top first one.word) second u2)
-      → Touched u2 (came (levels_of u1.layout) (came (levels_of u0.layout) top first one.word) second two.word) answer w → w.epoch ≡ v.epoch + 2 → LookedIn first second v answer w
+  pub looked_in : (v u0 u1 u2 w : PassView R B E) (first second : ℕ) (answer : Visit) → u0 ≡ entered v → (one : WentDown u0 top first u1) (two : WentDown u1 (came u0.layout.levels top first one.word) second u2)
+      → Touched u2 (came u1.layout.levels (came u0.layout.levels top first one.word) second two.word) answer w → w.epoch ≡ v.epoch + 2 → LookedIn first second v answer w
   unfolding went
   looked_in v u0 u1 u2 w first second (Got row) e one two touched epoch = (epoch, (went v u0 u1 u2 w first second 0 e one two touched.1, touched.0))
   looked_in v u0 u1 u2 w first second (Held holder) e one two touched epoch = (epoch, went v u0 u1 u2 w first second (held_by holder) e one two touched)
@@ -147,11 +146,11 @@ module _ {R B E : Type 0} where
   looked_in v u0 u1 u2 w first second Worn e one two touched epoch = absurd touched
 
   -- a row that a held row links
-  pub took_child : (v w : PassView R B E) (row : ℕ) (f : Finds row v) (x : R) → f.content ≡ x → w ≡ got v row f.place f.generation f.words x → (l : LinksRow v row) → Takes v row (entry_place (levels_of v.layout) l.linker.place l.index) (Ok x) w
+  pub took_child : (v w : PassView R B E) (row : ℕ) (f : Finds row v) (x : R) → f.content ≡ x → w ≡ got v row f.place f.generation f.words x → (l : LinksRow v row) → Takes v row (entry_place v.layout.levels l.linker.place l.index) (Ok x) w
   took_child v w row f x is e l = (f, is, e ∙ ap (λ (p : Place). got v row p f.generation f.words x) (f.known.of_entry l))
 
   pub missed_child : (v w : PassView R B E) (row : ℕ) (place : Place) (holder : Holder) → IsKnownPlace v row place → IsHolder v row holder.0 → w ≡ looked v row place None (held_by holder.0) → (l : LinksRow v row)
-      → Takes v row (entry_place (levels_of v.layout) l.linker.place l.index) (Err holder) w
+      → Takes v row (entry_place v.layout.levels l.linker.place l.index) (Err holder) w
   missed_child v w row place holder known holds e l = (holds, e ∙ ap (λ (p : Place). looked v row p None (held_by holder.0)) (known.of_entry l))
 
   -- a row on which the pass stands

@@ -24,7 +24,6 @@ use Rattle.row_uses.specs.declared.sowing.Lack.TheVariants.{Rows, Generations, M
 use Rattle.row_uses.specs.declared.sowing.Unsown.{Unsown}
 use Rattle.row_uses.specs.declared.sowing.Unsown.TheVariants.{Busy, Lacks}
 use Rattle.row_table.specs.Plan.{Region, IsUntouched, Meaning, IsLawful}
-use Rattle.row_table.specs.Rule.{levels_of}
 use Rattle.row_table.specs.Known.{IsAnother}
 use Rattle.row_table.specs.Moves.{Fits}
 use Rattle.row_table.specs.Books.{waited, Learns}
@@ -84,8 +83,8 @@ pub record MaySow (v : View) (row index : ℕ) (place : Place) : Type 0 where
   pub same_row : known.row ≡ row
   pub inside : index < 512
   pub no_link : is_link (slice_index known.words index) ≡ false
-  pub below : place ≡ entry_place (levels_of v.layout) known.place index
-  pub is_place : is_place (levels_of v.layout) place ≡ true
+  pub below : place ≡ entry_place v.layout.levels known.place index
+  pub is_place : is_place v.layout.levels place ≡ true
 
 abbrev pub bed : Place
 bed = record { space = 0; level = 3; prefix = 5 }
@@ -93,10 +92,11 @@ bed = record { space = 0; level = 3; prefix = 5 }
 abbrev pub next_bed : Place
 next_bed = record { space = 0; level = 3; prefix = 6 }
 
--- It holds row 1 alone, is outside, may sow at the entry 5, and may give the row back with this content.
+-- With four levels: it holds row 1 alone, is outside, may sow at the entry 5, and may give the row back with this content.
 pub record HasRoot (v : View) (content : Bool) : Type 0 where
+  pub four : v.layout.levels ≡ 4
   pub may : MaySow v 1 5 bed
-  pub place : may.known.place ≡ entry_place (levels_of v.layout) directory 0
+  pub place : may.known.place ≡ entry_place v.layout.levels directory 0
   pub fits : Fits sown v 1 content
   pub outside : v.core.stand ≡ None
 
@@ -174,8 +174,8 @@ pub record MaySowBoth (v : View) (row : ℕ) (first second : Bed) : Type 0 where
   pub one : MaySow v row first.index first.place
   pub inside : second.index < 512
   pub no_link : is_link (slice_index one.known.words second.index) ≡ false
-  pub below : second.place ≡ entry_place (levels_of v.layout) one.known.place second.index
-  pub is_place : is_place (levels_of v.layout) second.place ≡ true
+  pub below : second.place ≡ entry_place v.layout.levels one.known.place second.index
+  pub is_place : is_place v.layout.levels second.place ≡ true
   pub apart : first.index ≢ second.index
 
 pub record DrawsBoth (old : Seeds) (first second : Place) (a b : ℕ × ℕ) (new : Seeds) : Type 0 where

@@ -17,7 +17,6 @@ use Rattle.row_table.specs.declared.view.HeldRow.{HeldRow}
 use Rattle.row_table.specs.declared.view.HandRow.{HandRow}
 use Rattle.row_table.specs.Plan.{Meaning, IsLawful, HasGrown}
 use Rattle.row_table.specs.Vacant.{blank_words}
-use Rattle.row_table.specs.Rule.{levels_of}
 
 abbrev pub Stock : Type 0
 Stock = Vec ℕ × Vec PutRow × ℕ
@@ -50,12 +49,13 @@ lawful = record {
 abbrev pub View : Type 0
 View = PassView ℕ Stock (Unit {0})
 
--- It holds these rows, among them row 1 with this word in its entry 5, is outside without the book, and has these rows in its hand. Whether it has given the book since it grabbed row 1 is known.
+-- With four levels: it holds these rows, among them row 1 with this word in its entry 5, is outside without the book, and has these rows in its hand. Whether it has given the book since it grabbed row 1 is known.
 pub record HasRoot (v : View) (word : ℕ) (rows : List ℕ) (gs : List GrantedRow) (us : List UnlinkedRow) (given : Bool) : Type 0 where
+  pub four : v.layout.levels ≡ 4
   pub row_one : HeldRow ℕ
   pub there : Contains v.rows row_one
   pub number : row_one.row ≡ 1
-  pub place : row_one.place ≡ entry_place (levels_of v.layout) directory 0
+  pub place : row_one.place ≡ entry_place v.layout.levels directory 0
   pub word_five : slice_index row_one.words 5 ≡ word
   pub is_given : row_one.is_given ≡ given
   pub last : given ≡ true → (b : Stock) × (v.last ≡ Some b)
@@ -79,10 +79,11 @@ pub record HasGrant (v : View) (row generation : ℕ) : Type 0 where
   pub few : generation < 2 ^ 30
 
 pub record HasGraft (v : View) (row : ℕ) : Type 0 where
+  pub four : v.layout.levels ≡ 4
   pub linker : HeldRow ℕ
   pub there : Contains v.rows linker
   pub number : linker.row ≡ 1
-  pub place : linker.place ≡ entry_place (levels_of v.layout) directory 0
+  pub place : linker.place ≡ entry_place v.layout.levels directory 0
   pub long : length linker.words ≡ 512
   pub link : is_link (slice_index linker.words 5) ≡ true
   pub to_row : link_row (slice_index linker.words 5) ≡ row

@@ -16,7 +16,7 @@ use Rattle.row_uses.specs.declared.uses.Visit.TheVariants.{Got, Held, Stale, Wor
 use Rattle.row_uses.specs.declared.uses.Addition.{Addition}
 use Rattle.row_uses.specs.declared.uses.Addition.TheVariants.{Added, Busy, NoMemory}
 use Rattle.row_table.specs.Plan.{Meaning}
-use Rattle.row_table.specs.Rule.{StartsWith, levels_of, own_places}
+use Rattle.row_table.specs.Rule.{StartsWith, own_places}
 use Rattle.row_table.specs.Known.{IsAnother}
 use Rattle.row_table.specs.Moves.{finding}
 use Rattle.row_table.specs.Books.{waited, Learns}
@@ -42,7 +42,7 @@ module _ {R B E : Type 0} where
   pub record WentDown (v : PassView R B E) (s : Stand) (index : ℕ) (w : PassView R B E) : Type 0 where
     pub word : ℕ
     pub found : Notes v s (Some index) word w
-    pub stands : w.core.stand ≡ Some (came (levels_of v.layout) s index word)
+    pub stands : w.core.stand ≡ Some (came v.layout.levels s index word)
     pub layout : w.layout ≡ v.layout
 
   -- a grab of the row on which the pass stood
@@ -56,10 +56,10 @@ module _ {R B E : Type 0} where
   pub record Went (v : PassView R B E) (first second word : ℕ) (w : PassView R B E) : Type 0 where
     pub link : ℕ
     pub between : Stand
-    pub is_between : between ≡ came (levels_of v.layout) top first link
+    pub is_between : between ≡ came v.layout.levels top first link
     pub next : ℕ
     pub last : Stand
-    pub is_last : last ≡ came (levels_of v.layout) between second next
+    pub is_last : last ≡ came v.layout.levels between second next
     pub found : w.findings ≡ finding top.row top.place (Some first) link ∷ finding between.row between.place (Some second) next ∷ finding last.row last.place None word ∷ []
 
   -- a pass that came inside and went out again, or could not come

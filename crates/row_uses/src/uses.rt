@@ -6,7 +6,6 @@ ghost use Rattle.row_table.specs.Passes.{view_of, number_of, table_of, layout_of
 ghost use Rattle.row_table.specs.Close.{IsIdle, HasAll};
 ghost use Rattle.row_uses.specs.Tally.{tally};
 ghost use Rattle.row_table.specs.Known.{LinksRow};
-ghost use Rattle.row_table.specs.Rule.{levels_of};
 ghost use Rattle.table_place.specs.Place.{entry_place};
 ghost use Rattle.row_uses.specs.Uses.{IsStanding, WentDown, Touched, LookedIn, Adds, Remembers};
 ghost use Rattle.row_uses.specs.Takes.{Takes, Peeks};
@@ -148,7 +147,7 @@ pub fn take_child<P: Plan>(iron: &Iron<P>, pass: &mut Pass<P>, row: u32) -> Resu
     requires table { IsPassOf iron.now pass.old }
     requires linked { LinksRow (view_of pass.old) row }
     ensures table { table_of pass.new ≡ table_of pass.old }
-    ensures takes { (l : LinksRow (view_of pass.old) row) → Takes (view_of pass.old) row (entry_place (levels_of (view_of pass.old).layout) l.linker.place l.index) result (view_of pass.new) }
+    ensures takes { (l : LinksRow (view_of pass.old) row) → Takes (view_of pass.old) row (entry_place (view_of pass.old).layout.levels l.linker.place l.index) result (view_of pass.new) }
 {
     match pass.grab(iron, row) {
         Grabbed::Got(content) => Ok(content),

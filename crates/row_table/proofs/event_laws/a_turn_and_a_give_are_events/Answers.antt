@@ -9,3 +9,6 @@ returns-clause-held g c v w rows holder t = wait_event g.P.Plan.meaning v w rows
 
 pub returns-clause-give : goal.returns-clause-give
 returns-clause-give g c v w new found gives = gives_event g.P.Plan.meaning v w new found gives
+
+pub returns-clause-lists : goal.returns-clause-lists
+returns-clause-lists g c k v old new may = (may.free, may.limbo)

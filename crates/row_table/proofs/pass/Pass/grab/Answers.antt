@@ -1,10 +1,10 @@
-use Rattle.std.proofs.Common.{◌≡◌, rules, arith, ℕ, ◌+◌, ◌-◌, List, [], ◌∷◌, sym, ap, ◌∙◌, subst, None}
+use Rattle.std.proofs.Common.{◌≡◌, rules, arith, ℕ, ◌+◌, ◌-◌, List, [], ◌∷◌, sym, ap, ◌∙◌, subst, None, refl}
 use Rattle.walk_core.specs.Lists.{times}
 use Rattle.row_table.specs.Rule.{view}
 use Rattle.row_table.specs.Known.{IsHolder}
 use Rattle.row_table.specs.Moves.{got, looked}
 use Rattle.row_table.proofs.Locks.{grabs_at}
-use Rattle.row_table.proofs.Told.{Kept, kept_by, view_of, front_of, swapped, came_out, not_carried, room_left, carries_row, rows_with}
+use Rattle.row_table.proofs.Told.{Kept, kept_by, view_of, front_of, swapped, came_out, not_carried, room_left, carries_row, rows_with, same_id, same_table}
 use Rattle.row_table.proofs.Sizes.{grab_below, same_sizes, sized_got, sized_miss}
 use Rattle.row_table.specs.Passes.{model_of, iron_model}
 use Rattle.row_table.proofs.pass.Pass.grab.Goals as goal
@@ -16,8 +16,8 @@ overflow_add-mine g c = let few = c.args.self.now.few in let is = c.from-mine.en
 pub compare_exchange-before-requires : goal.compare_exchange-before-requires
 unfolding model_of iron_model
 compare_exchange-before-requires g c = (
-  search rules,
-  let wide = c.args.iron.now.sized.0 in let at = c.lock-word.ensures in let less = grab_below c.args.self.now.sized c.args.row c.requires.guard in let same = (same_sizes c.args.self.now.sized _ c.args.iron.now.layout c.requires.table c.args.iron.now.sized.0 c.args.iron.now.sized.1).0 in omega arith,
+  same_id c.requires.table,
+  let wide = c.args.iron.now.sized.0 in let at = c.lock-word.ensures in let less = grab_below c.args.self.now.sized c.args.row c.requires.guard in let same = (same_sizes c.args.self.now.sized _ c.args.iron.now.layout (same_id c.requires.table) c.args.iron.now.sized.0 c.args.iron.now.sized.1).0 in omega arith,
   grabs_at g.P.Plan.meaning _ _ _ _ _ _ c.args.row _ _ c.lock-word.ensures c.from-mine.ensures c.args.self.now.one c.requires.guard,
 )
 
@@ -25,7 +25,7 @@ pub push_front_reserved-requires : goal.push_front_reserved-requires
 unfolding model_of iron_model
 push_front_reserved-requires g c =
     let p = c.args.self.now in let t = (c.compare_exchange-before.ensures.2 c.args.row c.lock-word.ensures).0 c.if-before-eq0.true in let rows = c.args.iron.now.sized.1 in let slots = p.sized.slots in
-    let same = ap (λ (x : _). x.slots) c.requires.table in let less = grab_below p.sized c.args.row c.requires.guard in let room = p.room in
+    let same = ap (λ (x : _). x.slots) (same_id c.requires.table) in let less = grab_below p.sized c.args.row c.requires.guard in let room = p.room in
     let none : times c.args.row p.stack.items ≡ 0 = not_carried p.rows c.args.row (view p.seat.me).core.held p.stack.items (view p.seat.me).core.has_book p.carries (let once = t.0.once in omega arith) (λ _ e. omega arith) in
     let few = room_left p.rows c.args.row (view p.seat.me).core.held p.stack.items (view p.seat.me).core.has_book p.carries p.held (omega arith) none in omega arith
 
@@ -41,13 +41,13 @@ pub invariant_of-self : goal.invariant_of-self
 unfolding model_of iron_model
 invariant_of-self g c =
     let p = c.args.self.now in let t = (c.compare_exchange-before.ensures.2 c.args.row c.lock-word.ensures).0 c.if-before-eq0.true in let rows = c.args.iron.now.sized.1 in let slots = p.sized.slots in
-    let same = ap (λ (x : _). x.slots) c.requires.table in let less = grab_below p.sized c.args.row c.requires.guard in let once = t.0.once in let none : times c.args.row (view p.seat.me).core.held ≡ 0 = omega arith in
+    let same = ap (λ (x : _). x.slots) (same_id c.requires.table) in let less = grab_below p.sized c.args.row c.requires.guard in let once = t.0.once in let none : times c.args.row (view p.seat.me).core.held ≡ 0 = omega arith in
     let items : List ℕ = c.args.row ∷ p.stack.items in
     let pushed : c.push_front_reserved.new.self.items ≡ items = c.push_front_reserved.ensures.items in
-    let k : Kept p.number p.rows c.take_row.new.seat.table_id c.take_row.new.seat.me c.push_front_reserved.new.self.items = subst (Kept p.number p.rows c.take_row.new.seat.table_id c.take_row.new.seat.me) (sym pushed)
-    (kept_by p.number p.rows p.seat.table_id c.take_row.new.seat.table_id c.take_row.new.seat.me items (got (view p.seat.me) c.args.row t.0.place t.0.generation t.0.words t.0.content) (c.take_row.ensures.table ∙ c.compare_exchange-before.ensures.0)
+    let k : Kept p.number p.rows p.epoch c.take_row.new.seat.table_id c.take_row.new.seat.me c.push_front_reserved.new.self.items = subst (Kept p.number p.rows p.epoch c.take_row.new.seat.table_id c.take_row.new.seat.me) (sym pushed)
+    (kept_by p.number p.rows p.epoch p.seat.table_id c.take_row.new.seat.table_id c.take_row.new.seat.me items (got (view p.seat.me) c.args.row t.0.place t.0.generation t.0.words t.0.content) (c.take_row.ensures.table ∙ c.compare_exchange-before.ensures.0)
     (swapped _ _ _ _ _ _ t.1 c.take_row.ensures.seat ∙ ap (λ (cs : _). (got (view p.seat.me) c.args.row t.0.place t.0.generation t.0.words t.0.content ∷ [], (c.args.row, None) ∷ cs)) p.stacked)
-    p.one.1 (sized_got p.sized c.args.row t.0.place t.0.generation t.0.words t.0.content t.0.below) (carries_row p.rows c.args.row (view p.seat.me).core.held p.stack.items (view p.seat.me).core.has_book p.carries) (rows_with p.rows c.args.row (view p.seat.me).core.held p.held (omega arith) none)) in
+    p.one.1 (sized_got p.sized c.args.row t.0.place t.0.generation t.0.words t.0.content t.0.all t.0.below) (carries_row p.rows c.args.row (view p.seat.me).core.held p.stack.items (view p.seat.me).core.has_book p.carries) (rows_with p.rows c.args.row (view p.seat.me).core.held p.held (omega arith) none)) in
     record {
       one = k.one;
       sized = k.sized;
@@ -69,7 +69,7 @@ unfolding model_of iron_model
 invariant_of-self-else-before-eq0 g c =
     let p = c.args.self.now in let t = (c.compare_exchange-before.ensures.2 c.args.row c.lock-word.ensures).1 c.if-before-eq0.false in
     let w = looked (view p.seat.me) c.args.row t.0.place None c.compare_exchange-before.result in
-    let k : Kept p.number p.rows c.compare_exchange-before.new.seat.table_id c.compare_exchange-before.new.seat.me p.stack.items = kept_by p.number p.rows p.seat.table_id c.compare_exchange-before.new.seat.table_id c.compare_exchange-before.new.seat.me p.stack.items w c.compare_exchange-before.ensures.0
+    let k : Kept p.number p.rows p.epoch c.compare_exchange-before.new.seat.table_id c.compare_exchange-before.new.seat.me p.stack.items = kept_by p.number p.rows p.epoch p.seat.table_id c.compare_exchange-before.new.seat.table_id c.compare_exchange-before.new.seat.me p.stack.items w c.compare_exchange-before.ensures.0
     (t.1 ∙ ap (λ (cs : _). (w ∷ [], cs)) p.stacked) p.one.1 (sized_miss p.sized c.args.row t.0.place c.compare_exchange-before.result) p.carries p.held in
     record {
       one = k.one;
@@ -99,4 +99,16 @@ returns-else-before-eq256-clause-grabs g c = let t = (c.compare_exchange-before.
 
 pub take_row-requires-clause-table : goal.take_row-requires-clause-table
 unfolding model_of iron_model
-take_row-requires-clause-table g c κs within = c.compare_exchange-before.ensures.0 ∙ c.requires.table
+take_row-requires-clause-table g c κs within = c.compare_exchange-before.ensures.0 ∙ same_id c.requires.table
+
+pub returns-then-before-eq0-clause-table : goal.returns-then-before-eq0-clause-table
+unfolding model_of iron_model
+returns-then-before-eq0-clause-table g c = same_table _ _ (view c.args.self.now.seat.me) _ _ (c.take_row.ensures.table ∙ c.compare_exchange-before.ensures.0) ((returns-then-before-eq0-clause-grabs g c).2) refl refl
+
+pub returns-then-before-eq256-clause-table : goal.returns-then-before-eq256-clause-table
+unfolding model_of iron_model
+returns-then-before-eq256-clause-table g c = same_table _ _ (view c.args.self.now.seat.me) _ _ (c.compare_exchange-before.ensures.0) ((returns-then-before-eq256-clause-grabs g c).4) refl refl
+
+pub returns-else-before-eq256-clause-table : goal.returns-else-before-eq256-clause-table
+unfolding model_of iron_model
+returns-else-before-eq256-clause-table g c = same_table _ _ (view c.args.self.now.seat.me) _ _ (c.compare_exchange-before.ensures.0) ((returns-else-before-eq256-clause-grabs g c).4) refl refl

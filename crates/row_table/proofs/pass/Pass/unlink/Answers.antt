@@ -1,9 +1,9 @@
-use Rattle.std.proofs.Common.{rules, arith, [], ◌∷◌, ap, ◌∙◌}
+use Rattle.std.proofs.Common.{arith, [], ◌∷◌, ap, ◌∙◌, refl}
 use Rattle.row_table.specs.declared.view.PassView.{PassView}
 use Rattle.row_table.specs.Rule.{view}
 use Rattle.row_table.specs.Links.{entry_cut}
 use Rattle.row_table.proofs.Links.{cuts_at}
-use Rattle.row_table.proofs.Told.{Kept, kept_by, view_of}
+use Rattle.row_table.proofs.Told.{Kept, kept_by, view_of, same_id, same_table}
 use Rattle.row_table.proofs.Sizes.{view_there}
 use Rattle.row_table.proofs.Sized.{sized_cut}
 use Rattle.row_table.specs.Passes.{model_of, iron_model}
@@ -12,16 +12,16 @@ use Rattle.row_table.proofs.pass.Pass.unlink.Goals as goal
 pub entry-place-requires-clause-there : goal.entry-place-requires-clause-there
 unfolding model_of iron_model
 entry-place-requires-clause-there g c = let may = c.requires.guard in (
-  view_there c.args.self.now.sized c.args.self.now.held _ c.args.iron.now.layout c.requires.table c.args.iron.now.sized.0 c.args.iron.now.sized.1 may.linker may.held c.args.row may.same_row,
+  view_there c.args.self.now.sized c.args.self.now.held _ c.args.iron.now.layout (same_id c.requires.table) c.args.iron.now.sized.0 c.args.iron.now.sized.1 may.linker may.held c.args.row may.same_row,
   may.inside,
 )
 
 pub store-requires : goal.store-requires
 unfolding model_of iron_model
 store-requires g c = (
-  search rules,
+  same_id c.requires.table,
   let wide = c.args.iron.now.sized.0 in let at = c.entry-place.ensures in let may = c.requires.guard in
-      let less = view_there c.args.self.now.sized c.args.self.now.held _ c.args.iron.now.layout c.requires.table c.args.iron.now.sized.0 c.args.iron.now.sized.1 may.linker may.held c.args.row may.same_row in let inside = may.inside in omega arith,
+      let less = view_there c.args.self.now.sized c.args.self.now.held _ c.args.iron.now.layout (same_id c.requires.table) c.args.iron.now.sized.0 c.args.iron.now.sized.1 may.linker may.held c.args.row may.same_row in let inside = may.inside in omega arith,
   cuts_at g.P.Plan.meaning _ _ _ _ _ c.args.self.now.number c.args.row c.args.index _ c.entry-place.ensures c.args.self.now.one c.requires.guard,
 )
 
@@ -30,7 +30,7 @@ unfolding model_of iron_model
 invariant_of-self g c =
     let p = c.args.self.now in let may = c.requires.guard in let t = c.store.ensures.2 c.args.row c.args.index may.linker may.inside c.entry-place.ensures may.held may.same_row in
     let w : PassView g.row.P-Row.Denot g.row.P-Book.Denot g.row.P-Entry.Denot = entry_cut (view p.seat.me) may.linker c.args.index in
-    let k : Kept p.number p.rows c.store.new.seat.table_id c.store.new.seat.me p.stack.items = kept_by p.number p.rows p.seat.table_id c.store.new.seat.table_id c.store.new.seat.me p.stack.items w c.store.ensures.0
+    let k : Kept p.number p.rows p.epoch c.store.new.seat.table_id c.store.new.seat.me p.stack.items = kept_by p.number p.rows p.epoch p.seat.table_id c.store.new.seat.table_id c.store.new.seat.me p.stack.items w c.store.ensures.0
     (t ∙ ap (λ (cs : _). (w ∷ [], cs)) p.stacked) p.one.1 (sized_cut p.sized may.linker c.args.index) p.carries p.held in
     record {
       one = k.one;
@@ -45,3 +45,7 @@ invariant_of-self g c =
 pub returns-clause-unlinks : goal.returns-clause-unlinks
 unfolding model_of iron_model
 returns-clause-unlinks g c linker held same = view_of _ _ _ (c.store.ensures.2 c.args.row c.args.index linker c.requires.guard.inside c.entry-place.ensures held same)
+
+pub returns-clause-table : goal.returns-clause-table
+unfolding model_of iron_model
+returns-clause-table g c = let may = c.requires.guard in same_table _ _ (view c.args.self.now.seat.me) _ _ (c.store.ensures.0) (returns-clause-unlinks g c may.linker may.held may.same_row) refl refl

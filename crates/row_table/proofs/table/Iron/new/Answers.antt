@@ -31,3 +31,7 @@ returns-clause-views g c k d less = let ok = c.in-Ok.ensures.ok in let o = c.in_
 pub store-requires : goal.store-requires
 unfolding model_of iron_model
 store-requires g c = let long = ap length c.in_ok-words.ensures ∙ long_is c.args.layout c.requires.layout in let is = c.len.ensures in let count = c.in_ok-words.words.ok in omega arith
+
+pub returns-clause-origin : goal.returns-clause-origin
+unfolding model_of iron_model
+returns-clause-origin g c = let ok = c.in-Ok.ensures.ok in ap (λ (b : g.row.P-Book.Denot). Some b) (ap (λ a. a.origin.value) ok.5 ∙ c.of.ensures)
