@@ -1,33 +1,54 @@
-ghost use Rattle.std.specs.Prelude.{◌≡◌, ◌<◌, ◌≤◌, ◌^◌, ⊤, [], MatchOption, IfOk};
-ghost use Rattle.row_table.specs.Rule.{levels_of};
+ghost use Rattle.std.specs.Prelude.{◌≡◌, ◌+◌, ◌-◌, ◌*◌, ◌<◌, ◌≤◌, ◌^◌, ⊤, [], MatchBool, MatchOption, IfOk};
 ghost use Rattle.row_table.specs.Passes.{view_of, table_of, layout_of, IsPassOf};
 ghost use Rattle.row_table.specs.Close.{IsIdle};
-ghost use Rattle.row_uses.specs.Sown.{HasBeds};
 ghost use Rattle.tree_lock.specs.Zone.{IsZone};
 ghost use Rattle.tree_lock.specs.Tries.{IsFree};
 
-use row_table::{Grabbed, Iron, Layout, Pass};
-use row_uses::sowing::{Bed, Field, Seeds, Unsown, sow_both};
+use row_table::{Iron, Layout, Pass};
+use row_uses::sowing::{Field, Seeds, Unsown, sow};
 use std::alloc::{AllocError, Global};
 use std::test::Fail;
-use table_place::Place;
-use tree_lock::{Held, Tried, Zone, release_all, try_cover};
-
-// The link to row 1 with generation 1.
-const ROOT: u64 = 4_198_919;
+use table_place::{Place, an_entry_leads_to_a_child};
+use tree_lock::{Held, HeldRow, Tried, Zone, release_all, try_cover};
 
 // The pages below entries 5 and 6 of the root of a space.
 pub(crate) const FIFTH: u64 = 5 << 27;
 
 pub(crate) const SIXTH: u64 = 6 << 27;
 
-// A table with so many rows, and its two passes.
+const DIRECTORY: Place = Place {
+    space: 0,
+    level: 6,
+    prefix: 0,
+};
+
+const LEAF: Place = Place {
+    space: 0,
+    level: 1,
+    prefix: 4096,
+};
+
+// A row of a list.
+fn listed(row: u32, place: Place, content: bool) -> HeldRow<bool>
+    ensures { (result.row ≡ row) × (result.place ≡ place) }
+{
+    HeldRow {
+        row,
+        place,
+        generation: 0,
+        content,
+    }
+}
+
+// A table with so many rows and levels, and its two passes.
 pub(crate) fn made(
     alloc: Global,
     count: u32,
+    levels: u8,
 ) -> Result<(Iron<Field>, Pass<Field>, Pass<Field>), AllocError>
-    requires { (2 ≤ count) × (count ≤ 1024) }
-    ensures sizes { IfOk result (λ r. (layout_of r.0).rows ≡ count) }
+    requires rows { (2 ≤ count) × (count ≤ 1024) }
+    requires levels { (4 ≤ levels) × (levels ≤ 5) }
+    ensures rows { IfOk result (λ r. (layout_of r.0).rows ≡ count) }
     ensures first { IfOk result (λ r. IsPassOf r.0 r.1 × IsIdle (view_of r.1)) }
     ensures second { IfOk result (λ r. IsPassOf r.0 r.2 × IsIdle (view_of r.2)) }
 {
@@ -45,6 +66,7 @@ pub(crate) fn made(
     let layout = Layout {
         rows: count,
         passes: 2,
+        levels,
     };
     let book = Seeds {
         free,
@@ -62,71 +84,105 @@ pub(crate) fn made(
     Ok((iron, first, second))
 }
 
-// Takes the root of space 0 and goes outside. Its entries 5 and 6 are 0.
-fn take_root(iron: &Iron<Field>, mut pass: Pass<Field>) -> Option<(Pass<Field>, bool)>
-    requires table { IsPassOf iron.now pass }
-    requires idle { IsIdle (view_of pass) }
-    ensures { MatchOption result ⊤ (λ r. IsPassOf iron.now r.0 × HasBeds (view_of r.0) r.1) }
+// The position below the entry of a table that has a page in its span.
+fn below(place: Place, page: u64) -> Option<(u32, Place)>
+    ensures { MatchOption result ⊤ (λ r. (2 ≤ place.level) × (place.level ≤ 5) × (r.0 < 512) × (r.1 ≡ record { space = place.space; level = place.level - 1; prefix = 512 * place.prefix + r.0 })) }
 {
-    let Ok(()) = pass.enter(iron) else {
+    if place.level < 2 || place.level > 5 || place.prefix >= 1 << 36 {
         return None;
+    }
+    let index = ((page >> (9 * (place.level - 1))) % 512) as u32;
+    let child = Place {
+        space: place.space,
+        level: place.level - 1,
+        prefix: 512 * place.prefix + u64::from(index),
     };
-    let link = pass.look(iron, 0, 0);
-    if link != ROOT {
-        return None;
-    }
-    let Grabbed::Got(content) = pass.grab(iron, 1) else {
-        return None;
-    };
-    pass.leave(iron);
-    let word = pass.look(iron, 1, 5);
-    if word != 0 {
-        return None;
-    }
-    let next = pass.look(iron, 1, 6);
-    if next != 0 {
-        return None;
-    }
-    Some((pass, content))
+    Some((index, child))
 }
 
-// Links a table below each of the root's entries 5 and 6, and answers their rows.
-pub(crate) fn grow(
+// Covers a page, and links a table below the one row of its cover, nearer to the page.
+fn deepen(
     iron: &Iron<Field>,
-    pass: Pass<Field>,
-) -> Option<(Pass<Field>, Result<(u32, u32), Unsown>)>
-    requires table { IsPassOf iron.now pass }
-    requires idle { IsIdle (view_of pass) }
-    ensures { MatchOption result ⊤ (λ r. IsPassOf iron.now r.0 × IsIdle (view_of r.0)) }
+    pass: &mut Pass<Field>,
+    held: &mut Held<bool>,
+    page: u64,
+) -> Option<Result<u32, Unsown>>
+    requires table { IsPassOf iron.now pass.old }
+    requires idle { IsIdle (view_of pass.old) }
+    requires page { (16 ≤ page) × (page < 2 ^ 34) }
+    requires empty { held.old.rows ≡ [] }
+    requires room { (layout_of iron.now).rows ≤ held.old.room }
+    ensures { MatchOption result ⊤ (λ _. IsPassOf iron.now pass.new × IsIdle (view_of pass.new) × (held.new.rows ≡ []) × (held.new.room ≡ held.old.room)) }
 {
-    let (mut pass, content) = take_root(iron, pass)?;
-    let first = Bed {
-        index: 5,
-        place: Place {
-            space: 0,
-            level: 3,
-            prefix: 5,
-        },
+    an_entry_leads_to_a_child();
+    let Tried::Held = try_cover(pass, iron, &pages(iron, page, 1, false), held) else {
+        return None;
     };
-    let second = Bed {
-        index: 6,
-        place: Place {
-            space: 0,
-            level: 3,
-            prefix: 6,
-        },
-    };
-    let children = sow_both(iron, &mut pass, 1, first, second);
-    pass.release(iron, 1, content);
-    Some((pass, children))
+    let rows = held.rows();
+    if rows.len() != 1 {
+        return None;
+    }
+    let (row, place) = (rows[0].row, rows[0].place);
+    let (index, child) = below(place, page)?;
+    if pass.look(iron, row, index) != 0 {
+        return None;
+    }
+    let sown = sow(iron, pass, row, index, child);
+    release_all(pass, iron, held);
+    Some(sown)
+}
+
+// Goes down so many tables towards a page, and links each. Whether all were linked.
+fn grow(
+    iron: &Iron<Field>,
+    pass: &mut Pass<Field>,
+    held: &mut Held<bool>,
+    page: u64,
+    count: u32,
+) -> bool
+    requires table { IsPassOf iron.now pass.old }
+    requires idle { IsIdle (view_of pass.old) }
+    requires page { (16 ≤ page) × (page < 2 ^ 34) }
+    requires empty { held.old.rows ≡ [] }
+    requires room { (layout_of iron.now).rows ≤ held.old.room }
+    ensures { MatchBool result (IsPassOf iron.now pass.new × IsIdle (view_of pass.new) × (held.new.rows ≡ []) × (held.new.room ≡ held.old.room)) ⊤ }
+{
+    for _ in 0..count {
+        let Some(Ok(_)) = deepen(iron, pass, held, page) else {
+            return false;
+        };
+    }
+    true
+}
+
+// A table of five rows with the tree that the tests below cover: row 1 is the root of space 0, and links row 4 at the entry 5 and row 3
+// at the entry 6.
+pub(crate) fn planted(
+    alloc: Global,
+) -> Result<Option<(Iron<Field>, Pass<Field>, Pass<Field>, Held<bool>)>, AllocError>
+    ensures rows { IfOk result (λ o. MatchOption o ⊤ (λ r. (layout_of r.0).rows ≡ 5)) }
+    ensures first { IfOk result (λ o. MatchOption o ⊤ (λ r. IsPassOf r.0 r.1 × IsIdle (view_of r.1))) }
+    ensures second { IfOk result (λ o. MatchOption o ⊤ (λ r. IsPassOf r.0 r.2 × IsIdle (view_of r.2))) }
+    ensures list { IfOk result (λ o. MatchOption o ⊤ (λ r. (r.3.rows ≡ []) × (5 ≤ r.3.room))) }
+{
+    let (iron, mut first, second) = made(alloc, 5, 4)?;
+    let mut held = Held::new(alloc, 5)?;
+    if !grow(&iron, &mut first, &mut held, FIFTH, 1) {
+        return Ok(None);
+    }
+    if !grow(&iron, &mut first, &mut held, SIXTH, 1) {
+        return Ok(None);
+    }
+    Ok(Some((iron, first, second, held)))
 }
 
 // A range of pages of space 0.
-pub(crate) fn pages(first: u64, count: u64, strict: bool) -> Zone
-    requires first { (16 ≤ first) × (first < 2 ^ 33) }
+pub(crate) fn pages(iron: &Iron<Field>, first: u64, count: u64, strict: bool) -> Zone
+    requires first { (16 ≤ first) × (first < 2 ^ 34) }
     requires count { (1 ≤ count) × (count < 2 ^ 33) }
-    ensures { IsZone 4 result }
+    ensures { IsZone (layout_of iron.now).levels result }
 {
+    let _levels = iron.layout().levels;
     Zone::Pages {
         space: 0,
         first,
@@ -154,7 +210,7 @@ fn attempt(
 ) -> (Tried, (usize, Option<u32>, Option<u32>))
     requires table { IsPassOf iron.now pass.old }
     requires free { IsFree (view_of pass.old) }
-    requires zone { IsZone (levels_of (layout_of iron.now)) zone.now }
+    requires zone { IsZone (layout_of iron.now).levels zone.now }
     requires empty { held.old.rows ≡ [] }
     requires room { (layout_of iron.now).rows ≤ held.old.room }
     ensures table { table_of pass.new ≡ table_of pass.old }
@@ -185,7 +241,7 @@ fn while_held(
 ) -> Option<(Tried, (usize, Option<u32>, Option<u32>))>
     requires tables { IsPassOf iron.now first.old × IsPassOf iron.now second.old }
     requires free { IsFree (view_of first.old) × IsFree (view_of second.old) }
-    requires zones { IsZone (levels_of (layout_of iron.now)) zone.now × IsZone (levels_of (layout_of iron.now)) other.now }
+    requires zones { IsZone (layout_of iron.now).levels zone.now × IsZone (layout_of iron.now).levels other.now }
     requires empty { (one.old.rows ≡ []) × (two.old.rows ≡ []) }
     requires room { ((layout_of iron.now).rows ≤ one.old.room) × ((layout_of iron.now).rows ≤ two.old.room) }
     ensures tables { (table_of first.new ≡ table_of first.old) × (table_of second.new ≡ table_of second.old) }
@@ -207,47 +263,74 @@ fn while_held(
 
 #[test]
 fn the_lowest_row_is_held_and_the_rows_below(rt: HostRuntime) -> Result<(), Fail> {
-    let (iron, pass, _) = made(rt.alloc(), 5)?;
-    let Some((mut pass, children)) = grow(&iron, pass) else {
+    let Some((iron, mut pass, _, mut held)) = planted(rt.alloc())? else {
         return Err(Fail::from(AllocError));
     };
-    assert_eq!(rt; children, Ok((4, 3)));
-    let mut held = Held::new(rt.alloc(), 5)?;
-    // One page below entry 5, and all of them.
-    let lower = (Tried::Held, (1, Some(4), Some(4)));
-    assert_eq!(rt;
-        attempt(&iron, &mut pass, &mut held, &pages(FIFTH + 7, 1, false)),
-        lower
+    // One page below entry 5; all of them as a strict zone; a range over both entries; and the space.
+    let lower = attempt(
+        &iron,
+        &mut pass,
+        &mut held,
+        &pages(&iron, FIFTH + 7, 1, false),
     );
-    assert_eq!(rt;
-        attempt(&iron, &mut pass, &mut held, &pages(FIFTH, 1 << 27, false)),
-        lower
+    let upper = attempt(
+        &iron,
+        &mut pass,
+        &mut held,
+        &pages(&iron, FIFTH, 1 << 27, true),
     );
-    // The same as a strict zone, and a range over both entries.
-    let upper = (Tried::Held, (2, Some(1), Some(4)));
-    assert_eq!(rt;
-        attempt(&iron, &mut pass, &mut held, &pages(FIFTH, 1 << 27, true)),
-        upper
-    );
-    let three = (Tried::Held, (3, Some(1), Some(3)));
-    assert_eq!(rt;
-        attempt(&iron, &mut pass, &mut held, &pages(SIXTH - 1, 2, false)),
-        three
+    let three = attempt(
+        &iron,
+        &mut pass,
+        &mut held,
+        &pages(&iron, SIXTH - 1, 2, false),
     );
     let space = attempt(&iron, &mut pass, &mut held, &Zone::Space { space: 0 });
+    assert_eq!(rt; lower, (Tried::Held, (1, Some(4), Some(4))));
+    assert_eq!(rt; upper, (Tried::Held, (2, Some(1), Some(4))));
+    assert_eq!(rt; three, (Tried::Held, (3, Some(1), Some(3))));
     assert_eq!(rt; space, (Tried::Held, (4, Some(0), Some(3))));
+    Ok(())
+}
+
+// The cover of a page after four tables were linked on the way to it from the root of five levels, and that of its space.
+fn at_level_one(
+    alloc: Global,
+) -> Result<
+    Option<
+        (
+            (Tried, (usize, Option<u32>, Option<u32>)),
+            (Tried, (usize, Option<u32>, Option<u32>)),
+        ),
+    >,
+    AllocError,
+> {
+    let (iron, mut pass, _) = made(alloc, 7, 5)?;
+    let mut held = Held::new(alloc, 7)?;
+    if !grow(&iron, &mut pass, &mut held, FIFTH, 4) {
+        return Ok(None);
+    }
+    let page = attempt(&iron, &mut pass, &mut held, &pages(&iron, FIFTH, 1, false));
+    let space = attempt(&iron, &mut pass, &mut held, &Zone::Space { space: 0 });
+    Ok(Some((page, space)))
+}
+
+#[test]
+fn five_levels_are_gone_down_to_level_one(rt: HostRuntime) -> Result<(), Fail> {
+    // Rows 6 to 3 are at the levels 4 to 1.
+    let page = (Tried::Held, (1, Some(3), Some(3)));
+    let space = (Tried::Held, (6, Some(0), Some(3)));
+    assert_eq!(rt; at_level_one(rt.alloc())?, Some((page, space)));
     Ok(())
 }
 
 #[test]
 fn zones_apart_are_held_at_once(rt: HostRuntime) -> Result<(), Fail> {
-    let (iron, first, mut second) = made(rt.alloc(), 5)?;
-    let Some((mut first, _)) = grow(&iron, first) else {
+    let Some((iron, mut first, mut second, mut one)) = planted(rt.alloc())? else {
         return Err(Fail::from(AllocError));
     };
-    let mut one = Held::new(rt.alloc(), 5)?;
     let mut two = Held::new(rt.alloc(), 5)?;
-    let (fifth, sixth) = (pages(FIFTH, 9, false), pages(SIXTH, 9, false));
+    let (fifth, sixth) = (pages(&iron, FIFTH, 9, false), pages(&iron, SIXTH, 9, false));
     let beside = while_held(
         &iron,
         &mut first,
@@ -259,26 +342,38 @@ fn zones_apart_are_held_at_once(rt: HostRuntime) -> Result<(), Fail> {
     );
     assert_eq!(rt; beside, Some((Tried::Held, (1, Some(3), Some(3)))));
     // The whole space needs row 4, and is given back as far as it was taken.
-    let space = Zone::Space { space: 0 };
-    let above = while_held(
+    let space = while_held(
         &iron,
         &mut first,
         &mut one,
         &fifth,
         &mut second,
         &mut two,
-        &space,
+        &Zone::Space { space: 0 },
     );
-    assert_eq!(rt; above, Some((Tried::Busy(4, 0), (0, None, None))));
-    let again = while_held(
+    assert_eq!(rt; space, Some((Tried::Busy(4, 0), (0, None, None))));
+    // An absent space is covered by row 0.
+    let directory = while_held(
         &iron,
         &mut first,
         &mut one,
-        &sixth,
+        &Zone::Directory,
         &mut second,
         &mut two,
-        &fifth,
+        &Zone::Space { space: 3 },
     );
-    assert_eq!(rt; again, Some((Tried::Held, (1, Some(4), Some(4)))));
+    assert_eq!(rt; directory, Some((Tried::Busy(0, 0), (0, None, None))));
+    Ok(())
+}
+
+#[test]
+fn rows_stand_in_the_order_of_their_positions(rt: HostRuntime) -> Result<(), Fail> {
+    let mut held = Held::new(rt.alloc(), 2)?;
+    held.insert(listed(3, LEAF, true));
+    held.insert(listed(0, DIRECTORY, false));
+    assert_eq!(rt; rows_of(&held), (2, Some(0), Some(3)));
+    *held.content_mut(1) = false;
+    let leaf = held.remove(1);
+    assert_eq!(rt; (leaf.row, leaf.content), (3, false));
     Ok(())
 }

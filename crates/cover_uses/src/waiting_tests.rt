@@ -1,10 +1,9 @@
 ghost use Rattle.std.specs.Prelude.{◌≡◌, ◌≤◌, []};
-ghost use Rattle.row_table.specs.Rule.{levels_of};
 ghost use Rattle.row_table.specs.Passes.{view_of, table_of, layout_of, IsPassOf};
 ghost use Rattle.row_table.specs.Close.{IsIdle};
 ghost use Rattle.tree_lock.specs.Zone.{IsZone};
 
-use crate::tests::{FIFTH, SIXTH, grow, made, pages, rows_of};
+use crate::tests::{FIFTH, SIXTH, pages, planted, rows_of};
 use row_table::{Iron, IronClose, Parts, Pass};
 use row_uses::sowing::Field;
 use std::alloc::{AllocError, Global};
@@ -25,7 +24,7 @@ fn covered(
 ) -> (usize, Option<u32>, Option<u32>)
     requires table { IsPassOf iron.now pass.old }
     requires idle { IsIdle (view_of pass.old) }
-    requires zone { IsZone (levels_of (layout_of iron.now)) zone.now }
+    requires zone { IsZone (layout_of iron.now).levels zone.now }
     requires empty { held.old.rows ≡ [] }
     requires room { (layout_of iron.now).rows ≤ held.old.room }
     ensures table { table_of pass.new ≡ table_of pass.old }
@@ -58,9 +57,9 @@ fn run(
 {
     let mut all = true;
     let space = Zone::Space { space: 0 };
-    let both = pages(SIXTH - 1, 2, false);
-    let page = pages(FIFTH + 7, 1, false);
-    let strict = pages(FIFTH, 1 << 27, true);
+    let both = pages(iron, SIXTH - 1, 2, false);
+    let page = pages(iron, FIFTH + 7, 1, false);
+    let strict = pages(iron, FIFTH, 1 << 27, true);
     for _ in 0..ROUNDS {
         let four = covered(rt, iron, &mut pass, &mut held, &space);
         let three = covered(rt, iron, &mut pass, &mut held, &both);
@@ -77,11 +76,9 @@ fn both<R: Threads + Wait + Sync>(
     rt: &R,
     alloc: Global,
 ) -> Result<Option<(Parts<Field>, bool)>, AllocError> {
-    let (iron, first, second) = made(alloc, 5)?;
-    let Some((first, _)) = grow(&iron, first) else {
+    let Some((iron, first, second, one)) = planted(alloc)? else {
         return Ok(None);
     };
-    let one = Held::new(alloc, 5)?;
     let two = Held::new(alloc, 5)?;
     let shared = &iron;
     let (first, second) = join(
@@ -104,24 +101,6 @@ fn is_past(epochs: &[u64], pass: usize) -> bool {
         Some(epoch) => *epoch % 2 == 0 && *epoch >= u64::from(ROUNDS) * 8,
         None => false,
     }
-}
-
-#[test]
-fn a_cover_that_nobody_holds_is_taken_at_once(rt: HostRuntime) -> Result<(), Fail> {
-    let (iron, pass, _) = made(rt.alloc(), 5)?;
-    let Some((mut pass, _)) = grow(&iron, pass) else {
-        return Err(Fail::from(AllocError));
-    };
-    let mut held = Held::new(rt.alloc(), 5)?;
-    let fifth = pages(FIFTH, 9, false);
-    let whole = pages(FIFTH, 1 << 27, true);
-    let page = covered(&rt, &iron, &mut pass, &mut held, &fifth);
-    let strict = covered(&rt, &iron, &mut pass, &mut held, &whole);
-    let absent = covered(&rt, &iron, &mut pass, &mut held, &Zone::Space { space: 3 });
-    assert_eq!(rt; page, (1, Some(4), Some(4)));
-    assert_eq!(rt; strict, (2, Some(1), Some(4)));
-    assert_eq!(rt; absent, (1, Some(0), Some(0)));
-    Ok(())
 }
 
 #[test]
