@@ -29,3 +29,4 @@ pub mod Holding
 pub mod Tree
 pub mod Stepping
 pub mod Reused
+pub mod OfTable
