@@ -138,7 +138,7 @@ module _ {R B E : Type 0} where
     back : (v : PassView R B E) (y m x n : ℕ) → x ≢ y → IsSample M (sampled v y m) x n → IsSample M v x n
     back v y m x n ne old =
         let f : UnlinkedRow → UnlinkedRow = λ u. cond (among v.core.held u.row) u (record u { samples = samples_with y m u.samples }) in
-        let right : IsRight v = (let r = old.right in record { number = r.number; rows = r.rows; once = r.once; long = r.long; hand = r.hand; parity = r.parity; bounded = r.bounded }) in record {
+        let right : IsRight v = (let r = old.right in record { levels = r.levels; number = r.number; rows = r.rows; once = r.once; long = r.long; hand = r.hand; parity = r.parity; bounded = r.bounded }) in record {
           right = right;
           own = old.own;
           bounded = old.bounded;
