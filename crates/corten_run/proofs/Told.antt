@@ -16,11 +16,13 @@ use Rattle.history_lines.specs.HistoryText.{IsHistoryText}
 use Rattle.history_lines.specs.Checking.{IsVerdict}
 use Rattle.history_lines.proofs.OneHistory.{one_history}
 use Rattle.history_lines.proofs.OneVerdict.{one_verdict}
+use Rattle.tlb_text.specs.EventText.{IsEventText}
+use Rattle.tlb_text.proofs.Behind.{is_event_text}
 use Rattle.corten_run.specs.Commands.{Names, greatest_length}
 use Rattle.corten_run.specs.Endings.{Sides, CommandEnds, Answers, IsNoText, IsFirstFault, Refuses, IsVerdictText, ending_of, verdict_line}
 use Rattle.corten_run.specs.Statuses.{status_of}
 use Rattle.corten_run.specs.declared.command.Command.{Command}
-use Rattle.corten_run.specs.declared.command.Command.TheVariants.{Solo, Check}
+use Rattle.corten_run.specs.declared.command.Command.TheVariants.{Solo, Check, Tlb}
 use Rattle.corten_run.specs.declared.ending.Ending.{Ending}
 use Rattle.corten_run.specs.declared.ending.Ending.TheVariants.{Done, Refused, Usage, ReadFailed, WriteFailed, NoMemory, Illegal}
 
@@ -28,6 +30,7 @@ use Rattle.corten_run.specs.declared.ending.Ending.TheVariants.{Done, Refused, U
 answers_no_text : (command : Command) (bytes written : List ℕ) (e : Ending) → Answers command bytes e written → (length bytes ≤ greatest_length command → IsNoText command bytes) → ⊥
 answers_no_text Solo bytes written e h none = none h.0.fits h.0.script h.0.is_text
 answers_no_text Check bytes written e h none = none h.fits h.history h.is_text
+answers_no_text Tlb bytes written e h none = none h.0.fits (is_event_text bytes written h.0.answers)
 
 -- bytes that are no such text are refused, or memory is wanted
 pub refused_when : (command : Command) (bytes : List ℕ) (s : Sides) (e : Ending) → CommandEnds command bytes s e → ¬ (Rises s.read_faults s.read_faults_now)
@@ -88,6 +91,23 @@ pub done_if : (left : Option (List ℕ)) (script : Script) (s : Sides) (e : Endi
 done_if None script s e n is told quiet silent = tt
 done_if (Some bytes) script s e n is told quiet silent = λ is_text fits. subst (λ m. (m ≡ 0) ⊎ (m ≡ 5)) (sym is) (done_when bytes script s e told quiet silent is_text fits)
 
+-- events are answered, or memory is wanted
+answered_when : (bytes : List ℕ) (s : Sides) (e : Ending) → CommandEnds Tlb bytes s e → ¬ (Rises s.read_faults s.read_faults_now) → ¬ (Rises s.write_faults s.write_faults_now)
+    → IsEventText bytes → length bytes ≤ greatest_length Tlb → (status_of e ≡ 0) ⊎ (status_of e ≡ 5)
+answered_when bytes s Done ends quiet silent is_text fits = inl refl
+answered_when bytes s Illegal ends quiet silent is_text fits = let differ : Illegal ≡ Done = ends.1.1 in absurd (cc differ)
+answered_when bytes s Refused (written, inl bad, said) quiet silent is_text fits = absurd (bad.no_text is_text)
+answered_when bytes s Refused (written, inr long, said) quiet silent is_text fits = let more = long.too_long in absurd (omega (arith, more, fits))
+answered_when bytes s Usage ends quiet silent is_text fits = absurd ends
+answered_when bytes s ReadFailed ends quiet silent is_text fits = absurd (quiet ends.0)
+answered_when bytes s WriteFailed ends quiet silent is_text fits = absurd (silent ends.1)
+answered_when bytes s NoMemory ends quiet silent is_text fits = inr refl
+
+answered_if : (left : Option (List ℕ)) (s : Sides) (e : Ending) (n : ℕ) → n ≡ status_of e → IfSome left (λ bytes. CommandEnds Tlb bytes s e) → ¬ (Rises s.read_faults s.read_faults_now) → ¬ (Rises s.write_faults s.write_faults_now)
+    → IfSome left (λ bytes. IsEventText bytes → length bytes ≤ greatest_length Tlb → (n ≡ 0) ⊎ (n ≡ 5))
+answered_if None s e n is told quiet silent = tt
+answered_if (Some bytes) s e n is told quiet silent = λ is_text fits. subst (λ m. (m ≡ 0) ⊎ (m ≡ 5)) (sym is) (answered_when bytes s e told quiet silent is_text fits)
+
 -- a history is answered by what is found of it, or memory is wanted
 same_ending : (bytes written : List ℕ) (e : Ending) (h : History) (v : Verdict) → IsVerdictText bytes e written → IsHistoryText bytes h → IsVerdict h v → e ≡ ending_of v
 same_ending bytes written e h v found is_text is_verdict =
@@ -134,11 +154,21 @@ one_command words Solo Solo ha hb = refl
 one_command words Solo Check ha hb = let same = sym ha ∙ hb in absurd (cc same)
 one_command words Check Solo ha hb = let same = sym ha ∙ hb in absurd (cc same)
 one_command words Check Check ha hb = refl
+one_command words Solo Tlb ha hb = let same = sym ha ∙ hb in absurd (cc same)
+one_command words Check Tlb ha hb = let same = sym ha ∙ hb in absurd (cc same)
+one_command words Tlb Solo ha hb = let same = sym ha ∙ hb in absurd (cc same)
+one_command words Tlb Check ha hb = let same = sym ha ∙ hb in absurd (cc same)
+one_command words Tlb Tlb ha hb = refl
 
 pub judged_named : (command : Command) → command ≡ Check → (left : Option (List ℕ)) (h : History) (v : Verdict) (s : Sides) (e : Ending) (n : ℕ) → n ≡ status_of e → IfSome left (λ bytes. CommandEnds command bytes s e)
     → ¬ (Rises s.read_faults s.read_faults_now) → ¬ (Rises s.write_faults s.write_faults_now)
     → IfSome left (λ bytes. IsHistoryText bytes h → length bytes ≤ greatest_length Check → IsVerdict h v → (n ≡ status_of (ending_of v)) ⊎ (n ≡ 5))
 judged_named command is left h v s e n status told = judged_if left h v s e n status (subst (λ k. IfSome left (λ bytes. CommandEnds k bytes s e)) is told)
+
+pub answered_named : (command : Command) → command ≡ Tlb → (left : Option (List ℕ)) (s : Sides) (e : Ending) (n : ℕ) → n ≡ status_of e → IfSome left (λ bytes. CommandEnds command bytes s e)
+    → ¬ (Rises s.read_faults s.read_faults_now) → ¬ (Rises s.write_faults s.write_faults_now)
+    → IfSome left (λ bytes. IsEventText bytes → length bytes ≤ greatest_length Tlb → (n ≡ 0) ⊎ (n ≡ 5))
+answered_named command is left s e n status told = answered_if left s e n status (subst (λ k. IfSome left (λ bytes. CommandEnds k bytes s e)) is told)
 
 pub refused_named : (command named : Command) → command ≡ named → (left : Option (List ℕ)) (s : Sides) (e : Ending) (n : ℕ) → n ≡ status_of e → IfSome left (λ bytes. CommandEnds command bytes s e)
     → ¬ (Rises s.read_faults s.read_faults_now) → IfSome left (λ bytes. (length bytes ≤ greatest_length named → IsNoText named bytes) → (n ≡ 1) ⊎ (n ≡ 5))

@@ -1,5 +1,6 @@
 -- How a call of the program ends.
 --     IsSoloText      what `solo` writes for the bytes of a script
+--     IsTlbText      what `tlb` writes for the bytes of events
 --     verdict_line, ending_of, IsVerdictText      what `check` writes for the bytes of a history, and how it ends then
 --     Answers      what a command writes for them, where it ends so
 --     IsNoText, IsFirstFault      that they are none of the texts which a command reads, and the number of the first line outside
@@ -22,10 +23,11 @@ use Rattle.history_lines.specs.declared.verdict.Verdict.{Verdict}
 use Rattle.history_lines.specs.declared.verdict.Verdict.TheVariants as verdict
 use Rattle.history_lines.specs.HistoryText as histories
 use Rattle.history_lines.specs.Checking.{IsVerdict}
+use Rattle.tlb_text.specs.EventText as events
 use Rattle.corten_run.specs.Solo.{solo_text}
 use Rattle.corten_run.specs.Commands.{greatest_length}
 use Rattle.corten_run.specs.declared.command.Command.{Command}
-use Rattle.corten_run.specs.declared.command.Command.TheVariants.{Solo, Check}
+use Rattle.corten_run.specs.declared.command.Command.TheVariants.{Solo, Check, Tlb}
 use Rattle.corten_run.specs.declared.ending.Ending.{Ending}
 use Rattle.corten_run.specs.declared.ending.Ending.TheVariants.{Done, Refused, Usage, ReadFailed, WriteFailed, NoMemory, Illegal}
 
@@ -35,6 +37,11 @@ pub record IsSoloText (bytes written : List ℕ) : Type 0 where
   pub is_text : scripts.IsScriptText bytes script
   pub fits : length bytes ≤ greatest_length Solo
   pub history : written ≡ solo_text script
+
+-- the bytes are events, and this is the text of their answers
+pub record IsTlbText (bytes written : List ℕ) : Type 0 where
+  pub answers : events.AnswersText bytes written
+  pub fits : length bytes ≤ greatest_length Tlb
 
 abbrev pub verdict_line : Verdict → List ℕ
 verdict_line (verdict.Legal entries) = ended (codes "legal " ++ number entries)
@@ -58,16 +65,19 @@ pub record IsVerdictText (bytes : List ℕ) (ending : Ending) (written : List �
 abbrev pub Answers : Command → List ℕ → Ending → List ℕ → Type 0
 Answers Solo bytes ending written = IsSoloText bytes written × (ending ≡ Done)
 Answers Check bytes ending written = IsVerdictText bytes ending written
+Answers Tlb bytes ending written = IsTlbText bytes written × (ending ≡ Done)
 
 -- the bytes are not the text that a command reads
 abbrev pub IsNoText : Command → List ℕ → Type 0
 IsNoText Solo bytes = (script : Script) → ¬ (scripts.IsScriptText bytes script)
 IsNoText Check bytes = (h : History) → ¬ (histories.IsHistoryText bytes h)
+IsNoText Tlb bytes = ¬ (events.IsEventText bytes)
 
 -- the number of the first line outside the grammar of the texts that a command reads
 abbrev pub IsFirstFault : Command → List ℕ → ℕ → Type 0
 IsFirstFault Solo = scripts.IsFirstFault
 IsFirstFault Check = histories.IsFirstFault
+IsFirstFault Tlb = events.IsFirstFault
 
 -- the bytes are no text that the command reads, and the line names the first line outside the grammar
 pub record IsBadLine (command : Command) (bytes written : List ℕ) : Type 0 where

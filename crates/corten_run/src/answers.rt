@@ -20,6 +20,7 @@ use history_text::{Verdict, Written, check, read_history};
 use mm_script::{ScriptFault, read_script};
 use std::alloc::{AllocError, Global};
 use text_words::push_number;
+use tlb_text::answer_events;
 
 /// A line of a word and a number.
 fn numbered_line(alloc: Global, word: &[u8], line: u64) -> Result<Vec<u8>, AllocError>
@@ -127,6 +128,35 @@ fn answer_history<K: Sink>(alloc: Global, bytes: &[u8], sink: &mut K) -> Ending
     }
 }
 
+/// Answers the events whose text the bytes are.
+fn answer_caches<K: Sink>(alloc: Global, bytes: &[u8], sink: &mut K) -> Ending
+    requires { length bytes.now ≤ greatest_length command.Tlb }
+    ensures ends { CommandEnds command.Tlb bytes.now (record {
+      left_now = Some [];
+      read_faults = 0;
+      read_faults_now = 0;
+      held = K.held sink.old;
+      held_now = K.held sink.new;
+      write_faults = K.faults sink.old;
+      write_faults_now = K.faults sink.new;
+    }) result }
+    ensures read { result ≢ Ending.ReadFailed }
+    ensures other { result ≢ Ending.Illegal }
+    ensures write_fault { result ≡ Ending.WriteFailed → Rises (K.faults sink.old) (K.faults sink.new) }
+{
+    match answer_events(alloc, bytes) {
+        Ok(text) => {
+            if write_whole(sink, text.as_slice()) {
+                Ending::Done
+            } else {
+                Ending::WriteFailed
+            }
+        }
+        Err(ScriptFault::Bad(line)) => refuse(alloc, line, sink),
+        Err(ScriptFault::NoMemory) => Ending::NoMemory,
+    }
+}
+
 /// Answers what was read.
 pub(crate) fn answer<K: Sink>(alloc: Global, command: Command, bytes: &[u8], sink: &mut K) -> Ending
     requires { length bytes.now ≤ greatest_length command }
@@ -146,5 +176,6 @@ pub(crate) fn answer<K: Sink>(alloc: Global, command: Command, bytes: &[u8], sin
     match command {
         Command::Solo => answer_script(alloc, bytes, sink),
         Command::Check => answer_history(alloc, bytes, sink),
+        Command::Tlb => answer_caches(alloc, bytes, sink),
     }
 }

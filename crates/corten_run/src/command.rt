@@ -12,6 +12,8 @@ pub enum Command {
     Solo,
     /// Reads a history and says whether it is legal.
     Check,
+    /// Reads events of translation caches and answers each.
+    Tlb,
 }
 
 /// The command that the words after the program's name spell.
@@ -22,16 +24,18 @@ pub fn read_command(words: &[String]) -> Option<Command>
     match words {
         [word] if word.as_str() == "solo" => Some(Command::Solo),
         [word] if word.as_str() == "check" => Some(Command::Check),
+        [word] if word.as_str() == "tlb" => Some(Command::Tlb),
         _ => None,
     }
 }
 
-/// The bytes that a script or a history text may have.
+/// The bytes that the text which a command reads may have.
 pub fn greatest_length(command: Command) -> usize
     ensures { result ≡ definitions.greatest_length command }
 {
     match command {
         Command::Solo => 4_194_304,
         Command::Check => 67_108_864,
+        Command::Tlb => 4_194_304,
     }
 }

@@ -8,6 +8,7 @@ ghost use Rattle.history_lines.specs.declared.history.History.{History};
 ghost use Rattle.history_lines.specs.declared.verdict.Verdict.{Verdict};
 ghost use Rattle.history_lines.specs.HistoryText.{IsHistoryText};
 ghost use Rattle.history_lines.specs.Checking.{IsVerdict};
+ghost use Rattle.tlb_text.specs.EventText.{IsEventText};
 ghost use Rattle.corten_run.specs.declared.command.Command.{Command};
 ghost use Rattle.corten_run.specs.declared.command.Command.TheVariants as command;
 ghost use Rattle.corten_run.specs.declared.ending.Ending.{Ending};
@@ -23,7 +24,7 @@ use byte_streams::{ReadWhole, read_whole, write_whole};
 use corten_base::{Sink, Source};
 use std::alloc::Global;
 
-const USAGE: &[u8] = b"usage: cortenmm solo | check | run | load N K\n";
+const USAGE: &[u8] = b"usage: cortenmm solo | check | run | load N K | tlb\n";
 
 /// Reads a source whole, and answers what was read.
 fn serve<S: Source, K: Sink>(
@@ -99,6 +100,10 @@ pub fn corten_plain<S: Source, K: Sink>(
         → ¬ (Rises (K.faults sink.old) (K.faults sink.new))
         → IfSome (S.left source.old) (λ bytes. IsHistoryText bytes history → length bytes ≤ definitions.greatest_length command.Check → IsVerdict history verdict
         → (result ≡ status_of (ending_of verdict)) ⊎ (result ≡ 5)) }
+    // Events within their length are answered.
+    ensures answers_events { Names (map string_bytes words.now) command.Tlb → ¬ (Rises (S.faults source.old) (S.faults source.new))
+        → ¬ (Rises (K.faults sink.old) (K.faults sink.new))
+        → IfSome (S.left source.old) (λ bytes. IsEventText bytes → length bytes ≤ definitions.greatest_length command.Tlb → (result ≡ 0) ⊎ (result ≡ 5)) }
     // Other bytes are refused.
     ensures refuses { (command : Command) → Names (map string_bytes words.now) command → ¬ (Rises (S.faults source.old) (S.faults source.new))
         → IfSome (S.left source.old) (λ bytes. (length bytes ≤ definitions.greatest_length command → IsNoText command bytes) → (result ≡ 1) ⊎ (result ≡ 5)) }

@@ -3,8 +3,8 @@
 use Rattle.std.proofs.Common.{◌≡◌, ◌≢◌, ◌+◌, ℕ, List, [], ◌∷◌, ◌++◌, map, refl, sym, ◌∙◌, ap, subst, arith}
 use Rattle.std.specs.Prelude.{Result, Ok, Err, IfOk, IfErr}
 use Rattle.std.specs.List.{All}
-use Rattle.std.proofs.lemmas.List.{append-nil, map_push}
-use Rattle.std.proofs.lemmas.List.Elements.{All-nil, All-push}
+use Rattle.std.proofs.lemmas.List.{append-nil, append_assoc, map_push}
+use Rattle.std.proofs.lemmas.List.Elements.{All-nil, All-cons, All-push}
 use Rattle.text_words.specs.Layout.{IsLine, ended, text, TextRest}
 use Rattle.text_words.specs.Grammar as grammar
 use Rattle.text_words.specs.Passing.{Passes, FaultFrom}
@@ -116,3 +116,18 @@ if_ok (Err e) P Q more h = tt
 pub if_err : {A E : Type 0} → (r : Result A E) (P Q : E → Type 0) → ((e : E) → P e → Q e) → IfErr r P → IfErr r Q
 if_err (Ok x) P Q more h = tt
 if_err (Err e) P Q more h = more e h
+
+-- each event of a run is one that is there
+run_events : (sizes : Sizes) (before later : History) → IsRun sizes (before ++ later) → All (IsEvent sizes) (events_of later)
+run_events sizes before [] run = All-nil (IsEvent sizes)
+run_events sizes before (x ∷ later) run = All-cons (IsEvent sizes) x.event (events_of later) (run before later x refl).0
+    (run_events sizes (before ++ x ∷ []) later (subst (IsRun sizes) (sym (append_assoc before (x ∷ []) later)) run))
+
+-- bytes whose events were answered are a text of events
+pub is_event_text : (bytes answers : List ℕ) → AnswersText bytes answers → IsEventText bytes
+is_event_text bytes answers h = record {
+  lines = event_lines h.sizes (events_of h.history);
+  are_lines = h.are_lines;
+  read = h.read;
+  of_events = record { sizes = h.sizes; list = events_of h.history; are_sizes = h.are_sizes; are_events = run_events h.sizes [] h.history h.run; are = refl };
+}

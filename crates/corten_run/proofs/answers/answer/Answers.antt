@@ -17,3 +17,18 @@ returns-in-Check-clause-ends g c =
       write_faults_now = faults c.answer_history.new.sink;
     } in
     subst (λ k. CommandEnds k c.args.bytes.now sides c.answer_history.result) (sym c.in-Check.is) c.answer_history.ensures.ends
+
+pub returns-in-Tlb-clause-ends : goal.returns-in-Tlb-clause-ends
+returns-in-Tlb-clause-ends g c =
+    let held = g.K.Sink.held in
+    let faults = g.K.Sink.faults in
+    let sides : Sides = record {
+      left_now = Some [];
+      read_faults = 0;
+      read_faults_now = 0;
+      held = held c.args.sink.now;
+      held_now = held c.answer_caches.new.sink;
+      write_faults = faults c.args.sink.now;
+      write_faults_now = faults c.answer_caches.new.sink;
+    } in
+    subst (λ k. CommandEnds k c.args.bytes.now sides c.answer_caches.result) (sym c.in-Tlb.is) c.answer_caches.ensures.ends

@@ -1,4 +1,4 @@
--- The one word is `solo`, or it is `check`.
+-- The one word is `solo`, `check` or `tlb`.
 use Rattle.std.proofs.Common.{[], ◌∷◌, ap, sym, ◌∙◌}
 use Rattle.std.specs.String.{string_bytes}
 use lib.Pointwise.{bytes_decides}
@@ -14,3 +14,8 @@ pub returns-in-len1-2-clause-found : goal.returns-in-len1-2-clause-found
 returns-in-len1-2-clause-found c =
     map_single string_bytes c.args.words.now c.word-item-then-words-lt2.result c.in-len1.len_at_least c.in-len1.len_below c.word-item-then-words-lt2.is
     ∙ ap (λ text. text ∷ []) (sym c.as_str-then-words-lt2.ensures.value ∙ (bytes_decides _ _).0 (sym c.eq-then-words-lt2.ensures ∙ c.if-eq-2.true))
+
+pub returns-in-len1-3-clause-found : goal.returns-in-len1-3-clause-found
+returns-in-len1-3-clause-found c =
+    map_single string_bytes c.args.words.now c.word-item-then-words-lt2-2.result c.in-len1.len_at_least c.in-len1.len_below c.word-item-then-words-lt2-2.is
+    ∙ ap (λ text. text ∷ []) (sym c.as_str-then-words-lt2-2.ensures.value ∙ (bytes_decides _ _).0 (sym c.eq-then-words-lt2-2.ensures ∙ c.if-eq-3.true))

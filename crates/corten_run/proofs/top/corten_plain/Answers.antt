@@ -1,6 +1,6 @@
 -- Other words name no command; the status is that of the ending.
-use Rattle.corten_run.specs.declared.command.Command.TheVariants.{Solo, Check}
-use Rattle.corten_run.proofs.Told.{refused_named, judged_named, one_command}
+use Rattle.corten_run.specs.declared.command.Command.TheVariants.{Solo, Check, Tlb}
+use Rattle.corten_run.proofs.Told.{refused_named, judged_named, answered_named, one_command}
 use Rattle.corten_run.proofs.top.corten_plain.Goals as goal
 
 pub returns-in_default-clause-complete : goal.returns-in_default-clause-complete
@@ -8,6 +8,9 @@ returns-in_default-clause-complete g c = λ script named quiet silent. absurd (c
 
 pub returns-in_default-clause-judges : goal.returns-in_default-clause-judges
 returns-in_default-clause-judges g c = λ history verdict named quiet silent. absurd (c.in_default.ensures.none Check named)
+
+pub returns-in_default-clause-answers_events : goal.returns-in_default-clause-answers_events
+returns-in_default-clause-answers_events g c = λ named quiet silent. absurd (c.in_default.ensures.none Tlb named)
 
 pub returns-in_default-clause-refuses : goal.returns-in_default-clause-refuses
 returns-in_default-clause-refuses g c = λ command named quiet. absurd (c.in_default.ensures.none command named)
@@ -18,6 +21,10 @@ returns-in_default-clause-told g c = λ command named. absurd (c.in_default.ensu
 pub returns-clause-judges : goal.returns-clause-judges
 returns-clause-judges g c = λ history verdict named quiet silent.
     judged_named c.in-Some.command (one_command _ c.in-Some.command Check c.in-Some.ensures.found named) _ history verdict _ c.serve.result c.status-2.result c.status-2.ensures c.serve.ensures.told quiet silent
+
+pub returns-clause-answers_events : goal.returns-clause-answers_events
+returns-clause-answers_events g c = λ named quiet silent.
+    answered_named c.in-Some.command (one_command _ c.in-Some.command Tlb c.in-Some.ensures.found named) _ _ c.serve.result c.status-2.result c.status-2.ensures c.serve.ensures.told quiet silent
 
 pub returns-clause-refuses : goal.returns-clause-refuses
 returns-clause-refuses g c = λ command named quiet.
