@@ -6,7 +6,7 @@ use Rattle.page_map.specs.State.{State, IsConsistent}
 use Rattle.page_map.proofs.StepKeeps.{step_keeps}
 use Rattle.page_map.specs.Step.{step}
 use Rattle.text_words.specs.Layout.{ended}
-use Rattle.history_text.specs.HistoryText.{answer_line, entry_line, lines_of}
+use Rattle.history_lines.specs.HistoryText.{answer_line, entry_line, lines_of}
 use Rattle.corten_run.specs.Solo.{answered, state_after_calls, all_answered}
 
 -- the line of the next call, and then those of the others

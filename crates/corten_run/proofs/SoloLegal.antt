@@ -1,5 +1,5 @@
 -- The history that `solo` makes of a script is legal, and its accounts are right.
-use Rattle.std.proofs.Common.{◌≡◌, ℕ, ◌+◌, ◌<◌, ◌≤◌, List, [], ◌∷◌, ◌++◌, length, refl, sym, ap, subst, ◌∙◌, arith}
+use Rattle.std.proofs.Common.{◌≡◌, ℕ, ◌+◌, ◌<◌, ◌≤◌, List, [], ◌∷◌, length, refl, sym, ap, subst, ◌∙◌, arith}
 use Rattle.std.specs.List.{All}
 use Rattle.std.proofs.lemmas.List.Elements.{All-nil, All-cons, All-head, All-tail, All-append}
 use Rattle.corten_base.specs.declared.calls.Call.{Call}
@@ -13,9 +13,9 @@ use Rattle.page_map.proofs.Histories.{legal_join, after_append}
 use Rattle.mm_script.specs.declared.script.Script.{Script}
 use Rattle.mm_script.specs.CallLine.{IsCall}
 use Rattle.mm_script.specs.ScriptText.{IsScript}
-use Rattle.history_text.specs.HistoryText.{IsAsked, HasText}
-use Rattle.history_text.specs.Checking.{AreRight, IsLegalHistory}
-use Rattle.history_text.proofs.Closings.{own_accounts, closed_has_text}
+use Rattle.history_lines.specs.HistoryText.{IsAsked, HasText}
+use Rattle.history_lines.specs.Checking.{AreRight, IsLegalHistory}
+use Rattle.history_lines.proofs.Closings.{own_accounts, closed_has_text}
 use Rattle.history_text.proofs.Reached.{history_entries}
 use Rattle.corten_run.specs.Solo.{answered, state_after_calls, all_answered, state_after_threads, solo_history}
 use Rattle.corten_run.proofs.Answering.{calls_keep}

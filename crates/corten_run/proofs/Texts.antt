@@ -3,13 +3,13 @@ use Rattle.std.proofs.Common.{◌≡◌, ℕ, List, [], ◌++◌, Option, ◌∙
 use Rattle.byte_streams.specs.Streams.{HasWrittenPart}
 use Rattle.text_words.specs.Layout.{text}
 use Rattle.mm_script.specs.declared.script.Script.{Script}
-use Rattle.history_text.specs.Accounting.{header_lines, account_lines}
-use Rattle.history_text.specs.HistoryText.{lines_of}
+use Rattle.history_lines.specs.Accounting.{header_lines, account_lines}
+use Rattle.history_lines.specs.HistoryText.{lines_of}
 use Rattle.corten_base.specs.declared.calls.Call.{Call}
 use Rattle.corten_base.specs.declared.numbers.Accounts.{Accounts}
 use Rattle.page_map.specs.State.{State, start, accounts}
 use Rattle.corten_run.specs.Solo.{all_answered, state_after_threads, solo_entries, solo_accounts, solo_history, solo_text}
-use Rattle.history_text.proofs.Parts.{part_more, text_parts}
+use Rattle.history_lines.proofs.Parts.{part_more, text_parts}
 
 pub solo_parts : (script : Script) → (text (header_lines script.limits script.shelf) ++ lines_of (solo_entries script)) ++ text (account_lines (solo_accounts script)) ≡ solo_text script
 unfolding solo_text

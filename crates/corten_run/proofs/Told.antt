@@ -1,21 +1,21 @@
 -- What is known of the bytes that a source told.
-use Rattle.std.proofs.Common.{◌≡◌, ◌≢◌, ℕ, ◌≤◌, List, [], ◌∷◌, ◌++◌, Option, None, Some, IfSome, ◌∙◌, append-nil, length, refl, sym, ap, subst, inl, inr, arith}
+use Rattle.std.proofs.Common.{◌≡◌, ◌≢◌, ℕ, ◌≤◌, List, [], ◌++◌, Option, None, Some, IfSome, ◌∙◌, append-nil, length, refl, sym, ap, subst, inl, inr, arith}
 use Rattle.std.specs.Prelude.{◌⊎◌, codes}
 use Rattle.std.specs.Option.{unwrap_or}
 use Rattle.std.specs.Io.KnownBytes.{IsAtEnd}
 use Rattle.corten_base.specs.Outside.{Rises}
-use Rattle.byte_streams.specs.Streams.{HasRead, HasWritten, HasWrittenPart}
+use Rattle.byte_streams.specs.Streams.{HasRead, HasWritten}
 use Rattle.text_words.specs.Spelling.{number}
 use Rattle.text_words.specs.Layout.{ended}
 use Rattle.mm_script.specs.declared.script.Script.{Script}
 use Rattle.mm_script.specs.ScriptText.{IsScriptText}
-use Rattle.history_text.specs.declared.history.History.{History}
-use Rattle.history_text.specs.declared.verdict.Verdict.{Verdict}
-use Rattle.history_text.specs.declared.verdict.Verdict.TheVariants as verdict
-use Rattle.history_text.specs.HistoryText.{IsHistoryText}
-use Rattle.history_text.specs.Checking.{IsVerdict}
-use Rattle.history_text.proofs.OneHistory.{one_history}
-use Rattle.history_text.proofs.OneVerdict.{one_verdict}
+use Rattle.history_lines.specs.declared.history.History.{History}
+use Rattle.history_lines.specs.declared.verdict.Verdict.{Verdict}
+use Rattle.history_lines.specs.declared.verdict.Verdict.TheVariants as verdict
+use Rattle.history_lines.specs.HistoryText.{IsHistoryText}
+use Rattle.history_lines.specs.Checking.{IsVerdict}
+use Rattle.history_lines.proofs.OneHistory.{one_history}
+use Rattle.history_lines.proofs.OneVerdict.{one_verdict}
 use Rattle.corten_run.specs.Commands.{Names, greatest_length}
 use Rattle.corten_run.specs.Endings.{Sides, CommandEnds, Answers, IsNoText, IsFirstFault, Refuses, IsVerdictText, ending_of, verdict_line}
 use Rattle.corten_run.specs.Statuses.{status_of}

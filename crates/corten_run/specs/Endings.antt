@@ -17,11 +17,11 @@ use Rattle.text_words.specs.Spelling.{number}
 use Rattle.text_words.specs.Layout.{ended}
 use Rattle.mm_script.specs.declared.script.Script.{Script}
 use Rattle.mm_script.specs.ScriptText as scripts
-use Rattle.history_text.specs.declared.history.History.{History}
-use Rattle.history_text.specs.declared.verdict.Verdict.{Verdict}
-use Rattle.history_text.specs.declared.verdict.Verdict.TheVariants as verdict
-use Rattle.history_text.specs.HistoryText as histories
-use Rattle.history_text.specs.Checking.{IsVerdict}
+use Rattle.history_lines.specs.declared.history.History.{History}
+use Rattle.history_lines.specs.declared.verdict.Verdict.{Verdict}
+use Rattle.history_lines.specs.declared.verdict.Verdict.TheVariants as verdict
+use Rattle.history_lines.specs.HistoryText as histories
+use Rattle.history_lines.specs.Checking.{IsVerdict}
 use Rattle.corten_run.specs.Solo.{solo_text}
 use Rattle.corten_run.specs.Commands.{greatest_length}
 use Rattle.corten_run.specs.declared.command.Command.{Command}

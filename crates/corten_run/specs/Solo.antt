@@ -11,8 +11,8 @@ use Rattle.corten_base.specs.declared.numbers.Accounts.{Accounts}
 use Rattle.page_map.specs.State.{State, start, accounts}
 use Rattle.page_map.specs.Step.{step}
 use Rattle.mm_script.specs.declared.script.Script.{Script}
-use Rattle.history_text.specs.declared.history.History.{History}
-use Rattle.history_text.specs.HistoryText.{history_text}
+use Rattle.history_lines.specs.declared.history.History.{History}
+use Rattle.history_lines.specs.HistoryText.{history_text}
 
 abbrev pub answered : State → ℕ → List Call → List Entry
 answered st thread [] = []

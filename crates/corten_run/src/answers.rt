@@ -3,7 +3,7 @@ ghost use Rattle.std.specs.Prelude.{◌≡◌, ◌≢◌, ◌≤◌, ◌++◌, [
 ghost use Rattle.corten_base.specs.Outside.{Rises};
 ghost use Rattle.text_words.specs.Spelling.{number};
 ghost use Rattle.text_words.specs.Layout.{ended};
-ghost use Rattle.history_text.specs.Outcomes.{IsWritten};
+ghost use Rattle.history_lines.specs.Outcomes.{IsWritten};
 ghost use Rattle.corten_run.specs.declared.command.Command.TheVariants as command;
 ghost use Rattle.corten_run.specs.declared.command.Command.{Command};
 ghost use Rattle.corten_run.specs.declared.ending.Ending.{Ending};

@@ -2,9 +2,9 @@
 ghost use Rattle.std.specs.Prelude.{length};
 ghost use Rattle.mm_script.specs.declared.script.Script.{Script};
 ghost use Rattle.mm_script.specs.ScriptText.{IsScript};
-ghost use Rattle.history_text.specs.declared.verdict.Verdict.{Verdict};
-ghost use Rattle.history_text.specs.HistoryText.{IsHistoryText};
-ghost use Rattle.history_text.specs.Checking.{IsLegalHistory, IsVerdict};
+ghost use Rattle.history_lines.specs.declared.verdict.Verdict.{Verdict};
+ghost use Rattle.history_lines.specs.HistoryText.{IsHistoryText};
+ghost use Rattle.history_lines.specs.Checking.{IsLegalHistory, IsVerdict};
 ghost use Rattle.corten_run.specs.Solo.{solo_entries, solo_history, solo_text};
 
 /// The history that `solo` makes of a script is legal, and its accounts are right.

@@ -5,8 +5,8 @@ ghost use Rattle.page_map.specs.Step.{step};
 ghost use Rattle.text_words.specs.Layout.{ended};
 ghost use Rattle.mm_script.specs.CallLine.{IsCall};
 ghost use Rattle.mm_script.specs.ScriptText.{IsScript};
-ghost use Rattle.history_text.specs.HistoryText.{answer_line, lines_of};
-ghost use Rattle.history_text.specs.Outcomes.{GoesOn, IsWritten};
+ghost use Rattle.history_lines.specs.HistoryText.{answer_line, lines_of};
+ghost use Rattle.history_lines.specs.Outcomes.{GoesOn, IsWritten};
 ghost use Rattle.corten_run.specs.Solo.{answered, state_after_calls, all_answered, state_after_threads, solo_text};
 
 use corten_base::{Call, CallList, Sink};

@@ -10,7 +10,7 @@ use Rattle.walk_core.specs.declared.lists.PutRow.{PutRow}
 use Rattle.walk_core.specs.declared.pass.UnlinkedRow.{UnlinkedRow}
 use Rattle.walk_core.specs.declared.pass.SampleBounds.{SampleBounds}
 use Rattle.walk_core.specs.Lists.{times, Has, among}
-use Rattle.walk_core.specs.Core.{sample_of}
+use Rattle.walk_core.specs.Core.{sample_of, unlinked_rows}
 use Rattle.walk_core.specs.Events.{bounds_with, samples_with, unlinked_after_sample}
 use Rattle.walk_core.specs.Guards.{IsBetween, IsSampled, IsMarked}
 use Rattle.walk_core.specs.Good.{AreSampled}
@@ -64,6 +64,15 @@ between_on (Some b) n m old is =
     let first = ap (λ (y : SampleBounds). y.first) same in let last = ap (λ (y : SampleBounds). y.last) same in let low = is.2 in let high = is.3 in
     (record { first = b.first; last = n }, refl, omega arith, omega arith)
 
+-- the rows that a pass has unlinked
+rows_same : (x n : ℕ) (held : List ℕ) (us : List UnlinkedRow) → map (λ (u : UnlinkedRow). u.row) (unlinked_after_sample x n held us) ≡ map (λ (u : UnlinkedRow). u.row) us
+rows_same x n held [] = refl
+rows_same x n held (u ∷ us) = λ i. row_same (among held u.row) i ∷ rows_same x n held us i
+  where
+    row_same : (b : Bool) → (cond b u (record u { samples = samples_with x n u.samples })).row ≡ u.row
+    row_same true = refl
+    row_same false = refl
+
 -- the unlinked row of this number
 unlinked_of : (us : List UnlinkedRow) (r : ℕ) → Has (map (λ (u : UnlinkedRow). u.row) us) r → (u : UnlinkedRow) × Contains us u × (u.row ≡ r)
 unlinked_of [] r has = let z = times-nil r in absurd (omega arith)
@@ -89,6 +98,22 @@ module _ {R B E : Type 0} where
   pub loaded_stand : (a : ℕ) (ns : List ℕ) (v : PassView R B E) → (loaded a ns v).core.stand ≡ v.core.stand
   loaded_stand a [] v = refl
   loaded_stand a (n ∷ ns) v = loaded_stand (a + 1) ns (sampled v a n)
+
+  -- all but the samples stays
+  pub record SameButSamples (v w : PassView R B E) : Type 0 where
+    pub unlinked : List UnlinkedRow
+    pub samples : List (Option SampleBounds)
+    pub rows : map (λ (u : UnlinkedRow). u.row) unlinked ≡ unlinked_rows v.core
+    pub after : w ≡ record v { core = record v.core { unlinked = unlinked; samples = samples } }
+
+  pub loaded_same : (a : ℕ) (ns : List ℕ) (v : PassView R B E) → SameButSamples v (loaded a ns v)
+  loaded_same a [] v = record { unlinked = v.core.unlinked; samples = v.core.samples; rows = refl; after = refl }
+  loaded_same a (n ∷ ns) v = let rest = loaded_same (a + 1) ns (sampled v a n) in record {
+    unlinked = rest.unlinked;
+    samples = rest.samples;
+    rows = rest.rows ∙ rows_same a n v.core.held v.core.unlinked;
+    after = rest.after;
+  }
 
   -- an unlinked row that was marked has the new samples too
   loaded_marked : (a : ℕ) (ns : List ℕ) (v : PassView R B E) (u : UnlinkedRow) → Contains v.core.unlinked u → times u.row v.core.held ≡ 0

@@ -1,16 +1,4 @@
 pub mod Amounts
-pub mod Beginnings
-pub mod Bodies
 pub mod ByteCells
-pub mod Closings
-pub mod CountLines
-pub mod Names
-pub mod OneEntry
-pub mod OneHistory
-pub mod OneReply
-pub mod OneVerdict
-pub mod Parts
 pub mod Reached
-pub mod Shelves
 pub mod Spelled
-pub mod Verdicts

@@ -1,5 +1,5 @@
 -- The answered calls of a legal history whose calls have lines: each has one.
-use Rattle.std.proofs.Common.{◌≡◌, ℕ, ◌<◌, ◌≤◌, List, [], ◌∷◌, refl, sym, ap, subst, ◌∙◌, arith}
+use Rattle.std.proofs.Common.{◌≡◌, ℕ, ◌<◌, List, [], ◌∷◌, refl, sym, ap, subst, ◌∙◌, arith}
 use Rattle.std.specs.Prelude.{Option, Some, None}
 use Rattle.std.specs.Option.{unwrap_or}
 use Rattle.std.specs.List.{All}
@@ -22,10 +22,10 @@ use Rattle.page_map.proofs.Cells.{each_cell}
 use Rattle.page_map.proofs.StepKeeps.{step_keeps}
 use Rattle.mm_script.specs.CallLine.{IsCall}
 use Rattle.mm_script.specs.ScriptText.{IsFile, AreLimits, AreFiles}
-use Rattle.history_text.specs.Replies.{IsReply}
-use Rattle.history_text.specs.HistoryText.{IsEntry, IsAsked}
+use Rattle.history_lines.specs.Replies.{IsReply}
+use Rattle.history_lines.specs.HistoryText.{IsEntry, IsAsked}
 use Rattle.history_text.proofs.ByteCells.{AreBytes, AreAllBytes, stored_by, step_bytes}
-use Rattle.history_text.proofs.Closings.{step_limits, start_limits}
+use Rattle.history_lines.proofs.Closings.{step_limits, start_limits}
 use Rattle.history_text.proofs.Spelled.{spelled_step}
 
 -- the bytes that a call with a line stores

@@ -1,21 +1,17 @@
 -- The replies of steps have lines: their addresses, numbers and bytes are within the bounds of the grammar.
-use Rattle.std.proofs.Common.{◌≡◌, ℕ, zero, suc, ◌+◌, ◌-◌, ◌*◌, ◌/◌, ◌%◌, ◌^◌, ◌<◌, ◌≤◌, Bool, true, false, cond, not, ◌&&◌, List, [], ◌∷◌, ◌++◌, length, map, get_or, refl, sym, ap, subst, ◌∙◌, arith, ◌⊎◌, inl, inr}
+use Rattle.std.proofs.Common.{◌≡◌, ℕ, zero, suc, ◌+◌, ◌*◌, ◌/◌, ◌%◌, ◌^◌, ◌<◌, ◌≤◌, Bool, true, false, cond, not, List, [], ◌∷◌, length, get_or, refl, sym, ap, subst, ◌∙◌, arith, inl, inr}
 use mathlib.Core.Bool.{true≢false}
-use Rattle.std.specs.Prelude.{Option, Some, None, is_some, is_none, nat_eq, nat_lt, nat_le}
+use Rattle.std.specs.Prelude.{Option, Some, None, is_some, is_none, nat_lt, nat_le}
 use Rattle.std.specs.Option.{unwrap_or, option_map, option_map_or, option_and_then, option_or}
-use Rattle.std.specs.List.{All, filter, range_with_len, flat_map, sum_by}
+use Rattle.std.specs.List.{All, range_with_len, flat_map}
 use Rattle.std.specs.FinMap as fin
 use Rattle.std.specs.FinMap.{get-empty}
 use Rattle.std.specs.Ordering.{nat_cmp}
 use Rattle.std.proofs.lemmas.Bool.{and_parts, ltb-true, cases_eq}
 use Rattle.std.proofs.lemmas.List.FromFn.{length-map-range_with_len}
 use Rattle.std.proofs.lemmas.List.Elements.{All-nil, All-cons, All-head, All-tail, All-map}
-use Rattle.corten_base.specs.declared.calls.Backing.{Backing}
-use Rattle.corten_base.specs.declared.permissions.Perm.{Perm}
 use Rattle.corten_base.specs.declared.calls.Call.{Call}
 use Rattle.corten_base.specs.declared.calls.Call.TheVariants as call
-use Rattle.corten_base.specs.declared.calls.Entry.{Entry}
-use Rattle.corten_base.specs.declared.calls.MapPlace.{MapPlace}
 use Rattle.corten_base.specs.declared.calls.MapPlace.TheVariants as place
 use Rattle.corten_base.specs.declared.calls.Reply.{Reply}
 use Rattle.corten_base.specs.declared.calls.Reply.TheVariants as reply
@@ -23,7 +19,6 @@ use Rattle.corten_base.specs.declared.calls.Why.{Why}
 use Rattle.corten_base.specs.declared.calls.Why.TheVariants as why
 use Rattle.corten_base.specs.declared.calls.TxnOp.{TxnOp}
 use Rattle.corten_base.specs.declared.calls.TxnOp.TheVariants as op
-use Rattle.corten_base.specs.declared.numbers.Limits.{Limits}
 use Rattle.table_place.specs.declared.Place.{Place}
 use Rattle.table_place.specs.Range.{lies_in}
 use Rattle.table_place.specs.Place.{root, above, is_user_page, is_user_range, is_page_range, pages_of}
@@ -32,15 +27,14 @@ use Rattle.page_map.specs.declared.cell.Cell.TheVariants.{Anon, File, Mapped, Sw
 use Rattle.page_map.specs.Cell.{frame_of, slot_of, contents, is_past_end}
 use Rattle.page_map.specs.Change.{keys_in, least}
 use Rattle.page_map.specs.Tables.{need}
-use Rattle.page_map.specs.Access.{Access, first_page, page_count, allows, outside_user_pages, refused_at, refused_access, wants_frame, loaded}
+use Rattle.page_map.specs.Access.{Access, first_page, page_count, allows, outside_user_pages, refused_at, refused_access, wants_frame}
 use Rattle.page_map.specs.Mapping.{is_mappable, is_right, is_right_within, op_first, op_pages, refused_op, why_undone, undone, after_op, gap}
-use Rattle.page_map.specs.Effect.{answer, space_of, cells_of, placed_at, state_after, wanted_tables, wanting_frames_of, wanting_slots_of}
+use Rattle.page_map.specs.Effect.{answer, space_of, placed_at, wanted_tables, wanting_frames_of, wanting_slots_of}
 use Rattle.page_map.specs.Spaces.{least_absent}
 use Rattle.page_map.specs.Swap.{goes_out, comes_in}
 use Rattle.page_map.specs.Memory.{byte_at, bytes_at}
-use Rattle.page_map.specs.State.{State, AddressSpace, IsConsistent, SharersAgree, levels, linked, start, cell_at, is_present, space_at, unused_frames, unused_slots, frame_owners, slot_owners}
-use Rattle.page_map.specs.Step.{step, refusal, refusals, first_refusal, refused_unless, reply_why, arguments, no_space, no_spaces, no_place, pages, no_tables, no_frames, no_swap}
-use Rattle.page_map.specs.History.{IsLegal, IsHistory, entry_step, limbo_of}
+use Rattle.page_map.specs.State.{State, AddressSpace, IsConsistent, SharersAgree, linked, cell_at, is_present, space_at, unused_frames, unused_slots, frame_owners, slot_owners}
+use Rattle.page_map.specs.Step.{step, refusal, first_refusal, refused_unless, reply_why, arguments, no_space, no_spaces, no_place, pages, no_tables, no_frames, no_swap}
 use Rattle.page_map.proofs.Steps.{Passed, passed, not_none, refused, accepted}
 use Rattle.page_map.proofs.Unmapped.{held_of}
 use Rattle.page_map.proofs.Owners.{same_some}
@@ -48,12 +42,12 @@ use Rattle.page_map.proofs.Least.{answered, least_passes, none_below_least, unan
 use Rattle.page_map.proofs.Mappings.{page_range, gap_user}
 use Rattle.page_map.proofs.Memory.{loaded_is}
 use Rattle.mm_model.proofs.Bounds.{few_pass}
-use Rattle.mm_script.specs.CallLine.{IsCall, IsWithin, IsAccess}
+use Rattle.mm_script.specs.CallLine.{IsCall, IsAccess}
 use Rattle.mm_script.specs.ScriptText.{AreLimits}
-use Rattle.history_text.specs.Replies.{IsReply, IsWhy}
+use Rattle.history_lines.specs.Replies.{IsReply, IsWhy}
 use Rattle.history_text.proofs.Amounts.{nothing_needed, range_needs, pages_few, need_listed, ops_need, few_above, keys_below, keys_few, keys_nowhere}
 use Rattle.history_text.proofs.ByteCells.{AreBytes, AreAllBytes}
-use Rattle.history_text.proofs.Closings.{few_unused}
+use Rattle.history_lines.proofs.Closings.{few_unused}
 
 -- ---- what a step may answer
 

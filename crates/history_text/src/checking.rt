@@ -1,18 +1,14 @@
 //! Histories, checked against the plain machine.
 ghost use Rattle.std.specs.Prelude.{◌≡◌, ◌≤◌, ◌+◌, ◌↔◌, All, IsTrue, IfOk, IfSome, IfNone};
-ghost use Rattle.page_map.specs.State.{linked};
+ghost use Rattle.page_map.specs.State.{linked, start};
 ghost use Rattle.page_map.specs.History.{IsLegal, after, entry_step};
 ghost use Rattle.page_map.specs.History as definitions;
-ghost use Rattle.history_text.specs.HistoryText.{IsEntry, HasText};
-ghost use Rattle.history_text.specs.Checking.{IsRight, AreRight, IsVerdict};
-ghost use Rattle.history_text.specs.Wrong.{IsWrongAt, AreTablesRight, WrongAccount};
+ghost use Rattle.history_lines.specs.HistoryText.{IsEntry, HasText};
+ghost use Rattle.history_lines.specs.Checking.{IsRight, AreRight, IsVerdict};
+ghost use Rattle.history_lines.specs.Wrong.{IsWrongAt, AreTablesRight, WrongAccount};
 
-use crate::accounts::{frames_counts, swap_counts};
-use crate::counts::Counts;
-use crate::files::copy_of;
-use crate::history::History;
-use crate::verdict::Verdict;
 use corten_base::{Accounts, Entry, Reply};
+use history_lines::{Counts, History, Verdict, copy_of, frames_counts, swap_counts};
 use mm_model::{Plain, StepFault};
 use std::alloc::{AllocError, Global};
 
@@ -95,21 +91,38 @@ fn first_wrong_account(plain: &Plain, accounts: &Accounts) -> Option<u64>
     }
 }
 
+/// The machine with the limits and the files of a history, before its calls.
+fn start_of(alloc: Global, history: &History) -> Result<Plain, AllocError>
+    requires { HasText history.now }
+    ensures { IfOk result (λ plain. plain ≡ start history.now.limits history.now.shelf) }
+{
+    let shelf = copy_of(alloc, &history.shelf)?;
+    Plain::new(alloc, history.limits, shelf)
+}
+
+/// What is found of a history, by the machine before its calls.
+fn judge(alloc: Global, plain: &mut Plain, history: &History) -> Result<Verdict, AllocError>
+    requires text { HasText history.now }
+    requires start { plain.old ≡ start history.now.limits history.now.shelf }
+    ensures { IfOk result (IsVerdict history.now) }
+{
+    let first = FIRST_ENTRY + u64::from(history.shelf.count());
+    let entries = history.entries.list();
+    if let Some(place) = first_wrong_entry(alloc, plain, entries)? {
+        return Ok(Verdict::Illegal(first + place as u64));
+    }
+    let answered = entries.len() as u64;
+    match first_wrong_account(plain, &history.accounts) {
+        Some(place) => Ok(Verdict::Illegal(first + answered + place)),
+        None => Ok(Verdict::Legal(answered)),
+    }
+}
+
 /// Whether a history is legal and its accounts are right, and else the first line that no legal history has behind those before it.
 pub fn check(alloc: Global, history: &History) -> Result<Verdict, AllocError>
     requires { HasText history.now }
     ensures { IfOk result (IsVerdict history.now) }
 {
-    let shelf = copy_of(alloc, &history.shelf)?;
-    let mut plain = Plain::new(alloc, history.limits, shelf)?;
-    let first = FIRST_ENTRY + u64::from(history.shelf.count());
-    let entries = history.entries.list();
-    if let Some(place) = first_wrong_entry(alloc, &mut plain, entries)? {
-        return Ok(Verdict::Illegal(first + place as u64));
-    }
-    let answered = entries.len() as u64;
-    match first_wrong_account(&plain, &history.accounts) {
-        Some(place) => Ok(Verdict::Illegal(first + answered + place)),
-        None => Ok(Verdict::Legal(answered)),
-    }
+    let mut plain = start_of(alloc, history)?;
+    judge(alloc, &mut plain, history)
 }

@@ -1,34 +1,15 @@
-//! History texts: the answered calls of a run, and its accounts, as lines.
-//!
-//! A history text is lines, each ended by a newline, and no line is skipped: `corten 1`, the limits, a line for each file, a line for
-//! each answered call, and three lines of accounts.
+//! Histories: their texts are read and written by `history_lines`, and here they are checked against the plain machine.
 #![tactic(auto)]
 
-mod accounts;
-mod body;
 mod checking;
-mod counts;
-mod entries;
-mod files;
-mod header;
-mod history;
 mod laws;
-mod reading;
-mod replies;
-mod reply_names;
-mod verdict;
-mod writer;
 
-pub use accounts::push_header;
 pub use checking::check;
-pub use entries::{print_entry, read_entry};
-pub use history::History;
-pub use laws::{
-    a_history_has_one_verdict, a_legal_history_has_a_text, a_line_has_one_entry,
+pub use history_lines::{
+    History, Verdict, Written, a_history_has_one_verdict, a_line_has_one_entry,
     a_text_has_one_first_fault, a_text_has_one_history,
-    a_wrong_reply_or_account_is_the_first_wrong_line, printing_and_reading_are_inverse,
-    words_begin_with_one_entry,
+    a_wrong_reply_or_account_is_the_first_wrong_line, print_entry,
+    printing_and_reading_are_inverse, push_header, read_entry, read_history,
+    words_begin_with_one_entry, write_accounts, write_entry, write_history,
 };
-pub use reading::read_history;
-pub use verdict::Verdict;
-pub use writer::{Written, write_accounts, write_entry, write_history};
+pub use laws::a_legal_history_has_a_text;

@@ -2,6 +2,7 @@
 ghost use Rattle.std.specs.Prelude.{◌≡◌, ◌+◌, ◌≤◌, IfOk};
 ghost use Rattle.std.specs.Option.{option_map};
 ghost use Rattle.std.specs.FinMap as map;
+ghost use Rattle.std.specs.FinSet as set;
 ghost use Rattle.page_map.specs.Cell.{status_of};
 ghost use Rattle.page_map.specs.State.{IsWithinLimits, start, linked, accounts};
 
@@ -40,12 +41,27 @@ impl Model for Plain {
     ghost invariant = { λ a. IsSound (record { spaces = a.spaces; tables = a.tables; limits = a.limits; files = a.shelf }) a.frames a.slots a.fronts };
 }
 
+/// Space 0, with no cell.
+fn first_space(alloc: Global) -> Result<Spaces, AllocError>
+    ensures { IfOk result (λ spaces. spaces ≡ map.insert map.empty 0 map.empty) }
+{
+    let mut spaces = Spaces::new(alloc);
+    spaces.insert(0, AddressSpace::new(alloc))?;
+    Ok(spaces)
+}
+
 /// The page table at the top of space 0.
-const FIRST_ROOT: Place = Place {
-    space: 0,
-    level: 4,
-    prefix: 0,
-};
+fn first_root(alloc: Global) -> Result<Tables, AllocError>
+    ensures { IfOk result (λ tables. tables ≡ set.insert set.empty (record { space = 0; level = 4; prefix = 0 })) }
+{
+    let mut tables = Tables::new(alloc);
+    tables.insert(Place {
+        space: 0,
+        level: 4,
+        prefix: 0,
+    })?;
+    Ok(tables)
+}
 
 impl Plain {
     /// The machine with the files of a shelf, in which space 0 is present and empty.
@@ -54,10 +70,8 @@ impl Plain {
         ensures ok { IfOk result (λ plain. plain ≡ start limits shelf) }
         ensures fits { IfOk result (λ plain. linked plain ≤ plain.limits.tables) }
     {
-        let mut spaces = Spaces::new(alloc);
-        spaces.insert(0, AddressSpace::new(alloc))?;
-        let mut tables = Tables::new(alloc);
-        tables.insert(FIRST_ROOT)?;
+        let spaces = first_space(alloc)?;
+        let tables = first_root(alloc)?;
         Ok(Plain {
             spaces,
             tables,

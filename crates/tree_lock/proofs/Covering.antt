@@ -9,6 +9,7 @@ use Rattle.row_table.specs.declared.view.PassView.{PassView}
 use Rattle.row_table.specs.declared.view.HeldRow.{HeldRow as KnownRow}
 use Rattle.row_table.specs.Plan.{Meaning}
 use Rattle.row_table.specs.Rule.{row_part}
+use Rattle.row_table.specs.Known.{IsPlaced}
 use Rattle.row_table.specs.Moves.{NotInHand, Fits}
 use Rattle.tree_lock.specs.declared.zone.Zone.{Zone}
 use Rattle.tree_lock.specs.declared.zone.Zone.TheVariants.{Pages, Space, Directory}
@@ -98,6 +99,7 @@ module _ (levels : ℕ) where
               met = subst (IsMet levels zone) (sym got.same_place) (met_over zone x.row x.place z got.over);
               level = omega arith;
               there = subst (λ (r : ℕ). r < v.layout.rows) (sym got.same_row) got.there;
+              placed = subst (λ (p : Place). IsPlaced levels got.only.row p) (sym got.same_place) (subst (λ (r : ℕ). IsPlaced levels r x.place) (sym got.same_row) got.placed);
             };
             in_tree = subst (NotInHand v) (sym got.same_row) got.in_tree;
             links = 0;

@@ -23,7 +23,7 @@ use Rattle.tree_lock.specs.declared.below.Spot.{Spot}
 use Rattle.tree_lock.specs.Held.{row_numbers}
 use Rattle.tree_lock.specs.Zone.{Meets, IsTable, IsMet}
 use Rattle.tree_lock.specs.Reached.{IsOnTheWay, FoundNoLink, FoundJust, IsReached, LedTo, IsTaken}
-use Rattle.tree_lock.proofs.Meeting.{IsPlaced, child_parts}
+use Rattle.tree_lock.proofs.Meeting.{IsTablePlace, child_parts}
 use Rattle.table_place.specs.Place.{has_page}
 use Rattle.table_place.proofs.Entries.{page_from}
 use Rattle.table_place.proofs.Spans.{quotient_up}
@@ -95,7 +95,7 @@ module _ (levels : ℕ) where
   reached_more Directory fs gs row place h = h
 
   -- what is on the way below an entry is on the way at the table
-  up_page : (p : Place) (i s n : ℕ) → IsPlaced levels p → i < 512 → has_page (entry_place levels p i) s n ≡ true → has_page p s n ≡ true
+  up_page : (p : Place) (i s n : ℕ) → IsTablePlace levels p → i < 512 → has_page (entry_place levels p i) s n ≡ true → has_page p s n ≡ true
   up_page p i s n at inside h =
       let is = child_parts levels p i at s n h in
       let low = at.low in
@@ -320,6 +320,7 @@ module _ (levels : ℕ) where
               met = inr (gets.table, met);
               level = let l = child_level table in let b = a.of_cover.level in let p = ap (λ (x : Place). x.level) h.same_place in omega arith;
               there = subst (λ (y : PassView R B E). child.row < y.layout.rows) (sym gets.now) gets.there;
+              placed = gets.placed;
             };
             in_tree = subst (λ (y : PassView R B E). NotInHand y child.row) (sym gets.now) gets.in_tree;
             links = suc a.links;
@@ -332,9 +333,6 @@ module _ (levels : ℕ) where
             );
             lowest = λ i few way. absurd (off_way (subst (IsOnTheWay zone) gets.is_below (way_up gets.few zone child.place i gets.table few way)));
           }
-
-      pub same_but_child : IsSameBut v w
-      same_but_child = subst (IsSameBut v) (sym gets.now) refl
 
     module _ (zone : Zone) (at : Spot) (v : List (KnownRow R)) (w u t : PassView R B E) (xs ys : List (HeldRow R)) (i : ℕ) (child : Spot) (g : Going levels zone at v w.rows i) (inside : i < 512) (table : IsTable levels at.place) (h : HoldsAt w.rows at.row at.place) (gets : GetsChild levels w xs at i child u ys) (grew : Grew levels zone child u.rows t.rows) where
       abbrev child_is_row : KnownRow R
@@ -433,6 +431,9 @@ module _ (levels : ℕ) where
     pub kept_barred : (w u : PassView R B E) (xs ys : List (HeldRow R)) (at : Spot) (i row seat : ℕ) → MissesChild levels w xs at i row seat u ys → IsSameBut w u
     kept_barred w u xs ys at i row seat misses = subst (IsSameBut w) (sym misses.now) refl
 
+    pub kept_child : (w u : PassView R B E) (xs ys : List (HeldRow R)) (at : Spot) (i : ℕ) (child : Spot) → GetsChild levels w xs at i child u ys → IsSameBut w u
+    kept_child w u xs ys at i child gets = subst (IsSameBut w) (sym gets.now) refl
+
     -- ---- what a walk has done
 
     pub walked_none : (zone : Zone) (at : Spot) (v w u : PassView R B E) (xs ys zs : List (HeldRow R)) (i word : ℕ) → Walked levels zone at v xs w ys i → Sees w.rows at i word → is_link word ≡ false → u ≡ after_look w at i word → zs ≡ ys → Walked levels zone at v xs u zs (i + 1)
@@ -448,7 +449,7 @@ module _ (levels : ℕ) where
     walked_child zone at v w u t xs ys zs ts i child k inside table h meets gets kept epoch stage grew =
         let here : HoldsAt w.rows at.row at.place = holds_more v.rows w.rows k.going.more k.going.rows at.row at.place h in
         record {
-          kept = same_on v u t (same_on v w u k.kept (same_but_child zone w u ys zs at i child inside here gets)) kept;
+          kept = same_on v u t (same_on v w u k.kept (kept_child w u ys zs at i child gets)) kept;
           epoch = epoch ∙ ap (λ (y : PassView R B E). y.epoch) gets.now ∙ k.epoch;
           stage = λ top s. stage top (stage_child zone w u ys zs at i child inside here gets top table meets (k.stage top s));
           going = going_child zone at v.rows w u t ys zs i child k.going inside table here gets grew;

@@ -11,7 +11,7 @@ use Rattle.row_table.specs.declared.view.PassView.{PassView}
 use Rattle.row_table.specs.declared.view.HeldRow.{HeldRow as KnownRow}
 use Rattle.row_table.specs.Plan.{Meaning}
 use Rattle.row_table.specs.Rows.{place_at, lock_of}
-use Rattle.row_table.specs.Rule.{Table, levels_of, row_part, Holds}
+use Rattle.row_table.specs.Rule.{Table, row_part, Holds}
 use Rattle.row_table.specs.Close.{IsReached}
 use Rattle.row_table.specs.Tree.{IsTree}
 use Rattle.row_table.specs.Holding.{HeldTrue}
@@ -24,18 +24,17 @@ use Rattle.tree_lock.specs.declared.zone.Zone.TheVariants.{Pages, Space, Directo
 use Rattle.tree_lock.specs.Zone.{Meets, Spans}
 use Rattle.tree_lock.specs.Covers.{LinkedBy, CoversZone, AreInTree}
 use Rattle.tree_lock.specs.Linked.{Links, IsInCover, ShowsCover, ShownAreHeld, ListsAreCovers, CoversAreApart}
-use Rattle.tree_lock.proofs.Levels.{few_levels}
 use Rattle.tree_lock.proofs.LinkedTree.{IsLinkTree, level_at}
 use Rattle.tree_lock.proofs.LinkedCover.{IsClosed, IsTopped, cover_pages, cover_space, cover_directory}
 use Rattle.tree_lock.proofs.LinkedTops.{full_to}
 
 module _ {R B E : Type 0} (M : Meaning R B E) (k : Layout) (first : B) (s : Table R B E) (h : Holds M k first s) where
   abbrev levels : ℕ
-  levels = levels_of k
+  levels = k.levels
 
   pub link_tree : IsLinkTree levels s.words
   link_tree = record {
-    few = few_levels k;
+    few = ⊎_elim (λ (four : levels ≡ 4). omega arith) (λ (five : levels ≡ 5). omega arith) h.good.sizes.bounds.some_levels;
     top = tree.top;
     apart = tree.apart;
     named = λ r ne o. let n = tree.named r ne o in (n.linker, n.reached, record { index = n.index; inside = n.inside; link = n.link; to_row = n.to_row });

@@ -18,14 +18,14 @@ use Rattle.tree_lock.specs.Zone.{ZoneHas, IsZone, Meets, HasAll, LiesIn, Spans, 
 
 module _ (levels : ℕ) where
   -- what a position of a table is
-  pub record IsPlaced (p : Place) : Type 0 where
+  pub record IsTablePlace (p : Place) : Type 0 where
     pub few : levels < 6
     pub space : p.space < 64
     pub low : 1 ≤ p.level
     pub high : p.level ≤ levels
     pub prefix : p.prefix < 512 ^ (levels - p.level)
 
-  pub placed : levels < 6 → (p : Place) → is_place levels p ≡ true → IsPlaced p
+  pub placed : levels < 6 → (p : Place) → is_place levels p ≡ true → IsTablePlace p
   placed few p h =
       let outer = and_parts (nat_lt p.space 64) (within 1 levels p.level && nat_lt p.prefix (512 ^ (levels - p.level))) h in
       let inner = and_parts (within 1 levels p.level) (nat_lt p.prefix (512 ^ (levels - p.level))) outer.1 in
@@ -39,7 +39,7 @@ module _ (levels : ℕ) where
   pub child_is : (p : Place) (i : ℕ) → p.level < 6 → entry_place levels p i ≡ under p i
   child_is p i low = cond-false (is_directory p) (root levels i) (under p i) (no_directory p low)
 
-  module _ (p : Place) (i : ℕ) (at : IsPlaced p) where
+  module _ (p : Place) (i : ℕ) (at : IsTablePlace p) where
     -- the pages below an entry
     pub child_parts : (s n : ℕ) → has_page (entry_place levels p i) s n ≡ true → (p.space ≡ s) × (n / 512 ^ (p.level - 1) ≡ 512 * p.prefix + i)
     child_parts s n h = page_parts (under p i) s n (let high = at.high in omega arith) (subst (λ (q : Place). has_page q s n ≡ true) (child_is p i (let high = at.high in omega arith)) h)
@@ -61,7 +61,7 @@ module _ (levels : ℕ) where
   -- Zones of pages
 
   -- the first and the last page of a zone of pages lie in a span that has all
-  pub all_parts : (space first count : ℕ) (b : _) (p : Place) → IsPlaced p → 1 ≤ count → HasAll (Pages space first count b) p
+  pub all_parts : (space first count : ℕ) (b : _) (p : Place) → IsTablePlace p → 1 ≤ count → HasAll (Pages space first count b) p
       → (p.space ≡ space) × (first / 512 ^ p.level ≡ p.prefix) × ((first + count - 1) / 512 ^ p.level ≡ p.prefix)
   all_parts space first count b p at some all =
       let low = page_parts p space first (let high = at.high in omega arith) (all space first (refl, omega arith, omega arith)) in
@@ -69,14 +69,14 @@ module _ (levels : ℕ) where
       (low.0, low.1, end.1)
 
   -- where both lie below one entry, its span has all
-  pub all_below : (space first count : ℕ) (b : _) (p : Place) (i : ℕ) → IsPlaced p → p.space ≡ space → first / 512 ^ (p.level - 1) ≡ 512 * p.prefix + i → (first + count - 1) / 512 ^ (p.level - 1) ≡ 512 * p.prefix + i
+  pub all_below : (space first count : ℕ) (b : _) (p : Place) (i : ℕ) → IsTablePlace p → p.space ≡ space → first / 512 ^ (p.level - 1) ≡ 512 * p.prefix + i → (first + count - 1) / 512 ^ (p.level - 1) ≡ 512 * p.prefix + i
       → HasAll (Pages space first count b) (entry_place levels p i)
   all_below space first count b p i at same low end s n has =
       let a = quotient_le first n (p.level - 1) has.1 in let z = quotient_le n (first + count - 1) (p.level - 1) (let past = has.2 in omega arith) in
       child_from p i at s n (same ∙ sym has.0) (omega arith)
 
   -- and a range of as many pages is the span
-  pub just_below : (space first count : ℕ) (b : _) (p : Place) (i : ℕ) → IsPlaced p → p.space ≡ space → first / 512 ^ (p.level - 1) ≡ 512 * p.prefix + i → (first + count - 1) / 512 ^ (p.level - 1) ≡ 512 * p.prefix + i
+  pub just_below : (space first count : ℕ) (b : _) (p : Place) (i : ℕ) → IsTablePlace p → p.space ≡ space → first / 512 ^ (p.level - 1) ≡ 512 * p.prefix + i → (first + count - 1) / 512 ^ (p.level - 1) ≡ 512 * p.prefix + i
       → count ≡ 512 ^ (p.level - 1) → LiesIn (entry_place levels p i) (Pages space first count b)
   just_below space first count b p i at same low end whole s n h =
       let is = child_parts p i at s n h in
@@ -93,7 +93,7 @@ module _ (levels : ℕ) where
       (sym is.0 ∙ same, omega arith, omega arith)
 
   -- a span of another number of pages that has all is greater
-  pub more_below : (space first count : ℕ) (b : _) (p : Place) (i : ℕ) → IsPlaced p → p.space ≡ space → 1 ≤ count → first / 512 ^ (p.level - 1) ≡ 512 * p.prefix + i → (first + count - 1) / 512 ^ (p.level - 1) ≡ 512 * p.prefix + i
+  pub more_below : (space first count : ℕ) (b : _) (p : Place) (i : ℕ) → IsTablePlace p → p.space ≡ space → 1 ≤ count → first / 512 ^ (p.level - 1) ≡ 512 * p.prefix + i → (first + count - 1) / 512 ^ (p.level - 1) ≡ 512 * p.prefix + i
       → count ≢ 512 ^ (p.level - 1) → ¬ LiesIn (entry_place levels p i) (Pages space first count b)
   more_below space first count b p i at same some low end other lies =
       let m : ℕ = 512 ^ (p.level - 1) in
@@ -110,7 +110,7 @@ module _ (levels : ℕ) where
       other (omega arith)
 
   -- where they lie below two entries, the zone meets both
-  pub two_below : (space first count : ℕ) (b : _) (p : Place) → IsPlaced p → 1 ≤ count → HasAll (Pages space first count b) p → first / 512 ^ (p.level - 1) ≢ (first + count - 1) / 512 ^ (p.level - 1) → MeetsTwo levels (Pages space first count b) p
+  pub two_below : (space first count : ℕ) (b : _) (p : Place) → IsTablePlace p → 1 ≤ count → HasAll (Pages space first count b) p → first / 512 ^ (p.level - 1) ≢ (first + count - 1) / 512 ^ (p.level - 1) → MeetsTwo levels (Pages space first count b) p
   two_below space first count b p at some all ne =
       let parts = all_parts space first count b p at some all in
       let l : ℕ = first / 512 ^ (p.level - 1) in
@@ -130,7 +130,7 @@ module _ (levels : ℕ) where
       }
 
   -- the entry below which both lie
-  pub one_below : (space first count : ℕ) (b : _) (p : Place) → IsPlaced p → 1 ≤ count → HasAll (Pages space first count b) p → (i : ℕ) → i ≡ first / 512 ^ (p.level - 1) % 512 → first / 512 ^ (p.level - 1) ≡ (first + count - 1) / 512 ^ (p.level - 1)
+  pub one_below : (space first count : ℕ) (b : _) (p : Place) → IsTablePlace p → 1 ≤ count → HasAll (Pages space first count b) p → (i : ℕ) → i ≡ first / 512 ^ (p.level - 1) % 512 → first / 512 ^ (p.level - 1) ≡ (first + count - 1) / 512 ^ (p.level - 1)
       → (first / 512 ^ (p.level - 1) ≡ 512 * p.prefix + i) × ((first + count - 1) / 512 ^ (p.level - 1) ≡ 512 * p.prefix + i)
   one_below space first count b p at some all i is same =
       let parts = all_parts space first count b p at some all in
@@ -141,7 +141,7 @@ module _ (levels : ℕ) where
   -- The answers of a descent
 
   -- a position is the directory's or one of a table below it
-  pub placed_or : levels < 6 → (p : Place) → IsTable levels p → p.level ≢ 6 → IsPlaced p
+  pub placed_or : levels < 6 → (p : Place) → IsTable levels p → p.level ≢ 6 → IsTablePlace p
   placed_or few p table other = ⊎_elim (λ (e : p ≡ directory). absurd (other (ap (λ (q : Place). q.level) e))) (λ (h : is_place levels p ≡ true). placed few p h) table
 
   top_or : levels < 6 → (p : Place) → IsTable levels p → p.level ≡ 6 → p ≡ directory
@@ -154,11 +154,11 @@ module _ (levels : ℕ) where
   pub not_above : levels < 6 → (p : Place) → p.level ≤ levels → p.level ≢ 6
   not_above few p low e = omega arith
 
-  pub prefix_small : (p : Place) → IsPlaced p → p.prefix < 2 ^ 36
+  pub prefix_small : (p : Place) → IsTablePlace p → p.prefix < 2 ^ 36
   prefix_small p at =
       let bits = level_bits (levels - p.level) in let wide : 2 ^ (9 * (levels - p.level)) ≤ 2 ^ 36 = pow_mono (most p at) in let prefix = at.prefix in omega arith
     where
-      most : (p : Place) → IsPlaced p → 9 * (levels - p.level) ≤ 36
+      most : (p : Place) → IsTablePlace p → 9 * (levels - p.level) ≤ 36
       most p at = let low = at.low in let few = at.few in omega arith
 
   pub user : (space first count : ℕ) (b : Bool) → IsZone levels (Pages space first count b) → (16 ≤ first) × (first + count < 2 ^ (9 * levels - 1))
@@ -192,7 +192,7 @@ module _ (levels : ℕ) where
       (λ same. ne (ap (λ (x : ℕ). first / x) e ∙ same ∙ ap (λ (x : ℕ). (first + count - 1) / x) (sym e))))
 
   -- below the entry of the first page the zone has all pages where the last one lies there too
-  module _ (space first count m : ℕ) (b : Bool) (p : Place) (z : IsZone levels (Pages space first count b)) (at : IsPlaced p) (spans : Spans (Pages space first count b) p)
+  module _ (space first count m : ℕ) (b : Bool) (p : Place) (z : IsZone levels (Pages space first count b)) (at : IsTablePlace p) (spans : Spans (Pages space first count b) p)
       (e : m ≡ 512 ^ (p.level - 1)) (same : first / m ≡ (first + count - 1) / m) where
     both : (first / 512 ^ (p.level - 1) ≡ 512 * p.prefix + first / m % 512) × ((first + count - 1) / 512 ^ (p.level - 1) ≡ 512 * p.prefix + first / m % 512)
     both = one_below space first count b p at z.1 spans.all (first / m % 512) (ap (λ (x : ℕ). first / x % 512) e) (ap (λ (x : ℕ). first / x) (sym e) ∙ same ∙ ap (λ (x : ℕ). (first + count - 1) / x) e)
@@ -236,11 +236,11 @@ module _ (levels : ℕ) where
   pub pages_small : levels < 6 → (zone : Zone) (space first count : ℕ) (b : Bool) → zone ≡ Pages space first count b → IsZone levels zone → first + count < 2 ^ 45
   pages_small few zone space first count b is z = user_small few first count (subst (IsZone levels) is z).2
 
-  pub met_placed : levels < 6 → (zone : Zone) (p : Place) → IsMet levels zone p → p.level ≤ levels → IsPlaced p
+  pub met_placed : levels < 6 → (zone : Zone) (p : Place) → IsMet levels zone p → p.level ≤ levels → IsTablePlace p
   met_placed few zone p met low = ⊎_elim (λ (e : p ≡ directory). absurd (not_above few p low (ap (λ (q : Place). q.level) e))) (λ (h : (is_place levels p ≡ true) × Meets zone p). placed few p h.0) met
 
   -- below an entry of a table the zone meets the position where its quotients are on both sides
-  meets_pages : (space first count : ℕ) (b : Bool) (p : Place) (i : ℕ) → IsPlaced p → p.space ≡ space → 1 ≤ count → first / 512 ^ (p.level - 1) ≤ 512 * p.prefix + i → 512 * p.prefix + i ≤ (first + count - 1) / 512 ^ (p.level - 1)
+  meets_pages : (space first count : ℕ) (b : Bool) (p : Place) (i : ℕ) → IsTablePlace p → p.space ≡ space → 1 ≤ count → first / 512 ^ (p.level - 1) ≤ 512 * p.prefix + i → 512 * p.prefix + i ≤ (first + count - 1) / 512 ^ (p.level - 1)
       → Meets (Pages space first count b) (entry_place levels p i)
   meets_pages space first count b p i at same some low high = go (cases_lt ((512 * p.prefix + i) * 512 ^ (p.level - 1)) first)
     where
@@ -264,7 +264,7 @@ module _ (levels : ℕ) where
         of_span = child_from p i at space (q * m) same (first_below p i);
       }
 
-  pages_met : (space first count : ℕ) (b : Bool) (p : Place) (i : ℕ) → IsPlaced p → Meets (Pages space first count b) (entry_place levels p i)
+  pages_met : (space first count : ℕ) (b : Bool) (p : Place) (i : ℕ) → IsTablePlace p → Meets (Pages space first count b) (entry_place levels p i)
       → (first / 512 ^ (p.level - 1) ≤ 512 * p.prefix + i) × (512 * p.prefix + i ≤ (first + count - 1) / 512 ^ (p.level - 1))
   pages_met space first count b p i at m =
       let is = child_parts p i at m.space m.page m.of_span in let z = m.of_zone in
@@ -278,7 +278,7 @@ module _ (levels : ℕ) where
       let here = here_is zone p space first count b is z met other in
       (few, subst (λ (y : Zone). Meets y (entry_place levels p i)) (sym is) (meets_pages space first count b p i here.0 here.1 (subst (IsZone levels) is z).1 both.0 both.1))
     where
-      here_is : (zone : Zone) (p : Place) (space first count : ℕ) (b : Bool) → zone ≡ Pages space first count b → IsZone levels zone → IsMet levels zone p → p.level ≢ 6 → IsPlaced p × (p.space ≡ space)
+      here_is : (zone : Zone) (p : Place) (space first count : ℕ) (b : Bool) → zone ≡ Pages space first count b → IsZone levels zone → IsMet levels zone p → p.level ≢ 6 → IsTablePlace p × (p.space ≡ space)
       here_is zone p space first count b is z met other = ⊎_elim (λ (e : p ≡ directory). absurd (other (ap (λ (q : Place). q.level) e)))
           (λ (h : (is_place levels p ≡ true) × Meets zone p). let at = placed small p h.0 in let m = subst (λ (y : Zone). Meets y p) is h.1 in
           (at, (page_parts p m.space m.page (let high = at.high in omega arith) m.of_span).0 ∙ m.of_zone.0)) met
@@ -287,7 +287,7 @@ module _ (levels : ℕ) where
       → (i : ℕ) → i < 512 → Meets zone (entry_place levels p i) → (low ≤ i) × (i < end)
   met_all small zone p space first count b low end is met other cuts i few m = (cuts.1 i few).1 (pages_met space first count b p i (at_place met) (subst (λ (y : Zone). Meets y (entry_place levels p i)) is m))
     where
-      at_place : IsMet levels zone p → IsPlaced p
+      at_place : IsMet levels zone p → IsTablePlace p
       at_place (inl e) = absurd (other (ap (λ (q : Place). q.level) e))
       at_place (inr h) = placed small p h.0
 

@@ -72,6 +72,7 @@ module _ {R B E : Type 0} where
     is_top = got.is_top;
     over = got.over;
     there = got.there;
+    placed = got.placed;
     reached = got.reached;
     grabbed = got.grabbed;
   }

@@ -12,8 +12,8 @@ use Rattle.walk_core.specs.Events.{stand_after_look}
 use Rattle.walk_core.proofs.Stepped.{length-missing}
 use Rattle.walk_core.proofs.RowLists.{has_part}
 use Rattle.row_table.specs.declared.view.PassView.{PassView}
-use Rattle.row_table.specs.Rule.{levels_of, row_part}
-use Rattle.row_table.specs.Known.{IsHolder, IsAnother, LinksRow, IsKnownPlace}
+use Rattle.row_table.specs.Rule.{row_part}
+use Rattle.row_table.specs.Known.{IsHolder, IsAnother, LinksRow, IsKnownPlace, IsPlaced}
 use Rattle.row_table.specs.Moves.{finding, got, looked, Finds}
 use Rattle.row_table.specs.Looks.{Looks, MayLook}
 use Rattle.row_table.proofs.Views.{has_row, row_had}
@@ -34,7 +34,7 @@ module _ (levels : ℕ) where
       -- the view after the look
       pub looked_held : u ≡ after_look v at index word
       looked_held = looks.1
-          ∙ (λ j. record v { core = record v.core { stand = stand_after_look (levels_of v.layout) at.row index word (out j) }; findings = v.findings ++ finding at.row place (Some index) word ∷ [] })
+          ∙ (λ j. record v { core = record v.core { stand = stand_after_look v.layout.levels at.row index word (out j) }; findings = v.findings ++ finding at.row place (Some index) word ∷ [] })
           ∙ (λ j. record v { core = record v.core { stand = sym out j }; findings = v.findings ++ finding at.row (same j) (Some index) word ∷ [] })
         where
           place : Place
@@ -119,8 +119,8 @@ module _ (levels : ℕ) where
         to_row = ap link_row (sym (sees h.known h.held h.same_row)) ∙ sym to_row;
       }
 
-      levels_u : levels_of u.layout ≡ levels
-      levels_u = ap (λ (y : PassView R B E). levels_of y.layout) now ∙ on.1
+      levels_u : u.layout.levels ≡ levels
+      levels_u = ap (λ (y : PassView R B E). y.layout.levels) now ∙ on.1
 
       -- where the row is
       place_is : (p : Place) → IsKnownPlace u row p → p ≡ place
@@ -137,6 +137,7 @@ module _ (levels : ℕ) where
         is_below = is_below;
         table = subst (λ (p : Place). is_place levels p ≡ true) (sym is_below) table;
         there = subst (λ (y : PassView R B E). row < y.layout.rows) now f.there;
+        placed = subst (λ (n : ℕ). IsPlaced n row place) levels_u (subst (IsPlaced u.layout.levels row) (place_is f.place f.known) f.placed);
         generation = generation;
         words = f.words;
         content = x;

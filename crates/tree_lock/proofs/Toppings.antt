@@ -15,7 +15,7 @@ use Rattle.row_table.specs.declared.view.PassView.{PassView}
 use Rattle.row_table.specs.declared.view.HeldRow.{HeldRow as KnownRow}
 use Rattle.row_table.specs.declared.view.Finding.{Finding}
 use Rattle.row_table.specs.Plan.{Meaning}
-use Rattle.row_table.specs.Known.{IsHolder, IsAnother, IsLoose, IsKnownPlace}
+use Rattle.row_table.specs.Known.{IsHolder, IsAnother, IsLoose, IsKnownPlace, IsPlaced}
 use Rattle.row_table.specs.Moves.{finding, grabbed, got, looked, Finds, Fits}
 use Rattle.tree_lock.specs.declared.zone.Zone.{Zone}
 use Rattle.tree_lock.specs.declared.zone.Zone.TheVariants.{Pages, Space, Directory}
@@ -26,7 +26,7 @@ use Rattle.tree_lock.specs.Ways.{IsWay, IsHere}
 use Rattle.tree_lock.specs.Reached.{FoundNoLink, FoundJust, IsReached}
 use Rattle.tree_lock.specs.Covers.{IsLowest, IsTop}
 use Rattle.tree_lock.specs.Tries.{IsPages}
-use Rattle.tree_lock.specs.Descents.{IsOver, Stands, has_looked, Saw, LooksOn, IsShown, Shows, IsGot, IsMissed}
+use Rattle.tree_lock.specs.Descents.{IsOver, Stands, HasLevels, has_looked, Saw, LooksOn, IsShown, Shows, IsGot, IsMissed}
 use Rattle.tree_lock.proofs.Meeting.{placed, child_parts, user}
 
 pub none_in : {X : Type 0} (l : List X) (f : X) → l ≡ [] → Contains l f → ⊥
@@ -130,10 +130,10 @@ module _ (levels : ℕ) where
     abbrev after_looks : PassView R B E → Stand → List Finding → PassView R B E
     after_looks u s after = record u { core = record u.core { stand = Some s }; findings = u.findings ++ after }
 
-    is_got : (zone : Zone) (v w : PassView R B E) (at s : Stand) (after : List Finding) (x : R) → Stands v at → (f : Finds at.row v) → w ≡ after_looks (got v at.row at.place at.generation f.words x) s after
+    is_got : (zone : Zone) (v w : PassView R B E) (at s : Stand) (after : List Finding) (x : R) → HasLevels levels v → Stands v at → (f : Finds at.row v) → w ≡ after_looks (got v at.row at.place at.generation f.words x) s after
         → IsOver levels zone at.row at.place → IsTop levels zone (grabbed at.row at.place at.generation f.words x) → IsReached levels zone ((v.findings ++ finding at.row at.place None 0 ∷ []) ++ after) at.row at.place
         → IsGot levels zone w (record { row = at.row; place = at.place; generation = at.generation; content = x })
-    is_got zone v w at s after x st f e over top reached =
+    is_got zone v w at s after x on st f e over top reached =
         let only : KnownRow R = grabbed at.row at.place at.generation f.words x in
         let here : Contains (v.rows ++ only ∷ []) only = Contains-append_right v.rows (only ∷ []) only (0, omega arith, refl) in
         let grab : Finding = finding at.row at.place None 0 in
@@ -149,6 +149,7 @@ module _ (levels : ℕ) where
           is_top = top;
           over = over;
           there = f.there;
+          placed = subst (λ (n : ℕ). IsPlaced n at.row at.place) on.1 (subst (IsPlaced v.layout.levels at.row) (f.known.of_stand at st.on refl) f.placed);
           reached = reached;
           grabbed = Contains-append_left (v.findings ++ grab ∷ []) after grab (Contains-append_right v.findings (grab ∷ []) grab (0, omega arith, refl));
         })
@@ -174,10 +175,10 @@ module _ (levels : ℕ) where
 
     -- The answers of a grab where the descent ends
 
-    pub got_here : (zone : Zone) (v u w : PassView R B E) (at : Stand) (way : Way) (x : R) → Stands v at → (f : Finds at.row v) → u ≡ got v at.row f.place f.generation f.words x → Shows way at u w
+    pub got_here : (zone : Zone) (v u w : PassView R B E) (at : Stand) (way : Way) (x : R) → HasLevels levels v → Stands v at → (f : Finds at.row v) → u ≡ got v at.row f.place f.generation f.words x → Shows way at u w
         → IsZone levels zone → IsOver levels zone at.row at.place → IsHere way → IsWay levels zone at.place way → IsGot levels zone w (record { row = at.row; place = at.place; generation = at.generation; content = x })
-    got_here zone v u w at way x st f e shows z over here is =
-        is_got zone v w at shows.2.0 shows.0 x st f (shows.2.1 ∙ ap (λ (y : PassView R B E). after_looks y shows.2.0 shows.0) (got_there v u at x st.on f e)) over
+    got_here zone v u w at way x on st f e shows z over here is =
+        is_got zone v w at shows.2.0 shows.0 x on st f (shows.2.1 ∙ ap (λ (y : PassView R B E). after_looks y shows.2.0 shows.0) (got_there v u at x st.on f e)) over
         (top_here zone way (grabbed at.row at.place at.generation f.words x) z over here is)
         (reached_here zone way at (v.findings ++ finding at.row at.place None 0 ∷ []) shows.0 z over here is shows.1)
 
@@ -198,15 +199,15 @@ module _ (levels : ℕ) where
 
     -- The answers of a grab behind a look that found no link
 
-    pub got_last : (zone : Zone) (v u w : PassView R B E) (at : Stand) (i : ℕ) (x : R) → Stands v at → (f : Finds at.row v) → u ≡ got v at.row f.place f.generation f.words x → LooksOn levels u at i None w
+    pub got_last : (zone : Zone) (v u w : PassView R B E) (at : Stand) (i : ℕ) (x : R) → HasLevels levels v → Stands v at → (f : Finds at.row v) → u ≡ got v at.row f.place f.generation f.words x → LooksOn levels u at i None w
         → IsZone levels zone → IsPages zone → IsOver levels zone at.row at.place → i < 512 → Spans zone (entry_place levels at.place i) → IsGot levels zone w (record { row = at.row; place = at.place; generation = at.generation; content = x })
-    got_last zone v u w at i x st f e looks z pages over few below =
+    got_last zone v u w at i x on st f e looks z pages over few below =
         let only : KnownRow R = grabbed at.row at.place at.generation f.words x in
         let is = got_there v u at x st.on f e in
         let after : List Finding = finding at.row at.place (Some i) looks.0 ∷ [] in
         let there : Contains u.rows only = subst (λ (y : PassView R B E). Contains y.rows only) (sym is) (Contains-append_right v.rows (only ∷ []) only (0, omega arith, refl)) in
         let none : is_link (slice_index only.words i) ≡ false = ap is_link (sym (looks.3 only there refl)) ∙ looks.2 in
-        is_got zone v w at at after x st f (looks.1 ∙ ap (λ (y : PassView R B E). after_looks y at after) is) over
+        is_got zone v w at at after x on st f (looks.1 ∙ ap (λ (y : PassView R B E). after_looks y at after) is) over
         (top_last zone i only z pages over below none)
         (reached_last zone i looks.0 at ((v.findings ++ finding at.row at.place None 0 ∷ []) ++ after) z pages over few below (Contains-append_right (v.findings ++ finding at.row at.place None 0 ∷ []) after (finding at.row at.place (Some i) looks.0) (0, omega arith, refl)) looks.2)
 

@@ -14,6 +14,7 @@ use Rattle.table_place.specs.Place.{directory, entry_place}
 use Rattle.walk_core.specs.Words.{is_link, link_row}
 use Rattle.row_table.specs.declared.view.PassView.{PassView}
 use Rattle.row_table.specs.declared.view.HeldRow.{HeldRow as KnownRow}
+use Rattle.row_table.specs.Known.{IsPlaced}
 use Rattle.row_table.specs.Moves.{NotInHand}
 use Rattle.tree_lock.specs.declared.zone.Zone.{Zone}
 use Rattle.tree_lock.specs.declared.zone.Zone.TheVariants.{Pages, Space, Directory}
@@ -69,9 +70,10 @@ module _ {R : Type 0} (levels : ℕ) where
     pub meets : Meets zone place
 
   module _ (count : ℕ) where
-    -- one of so many rows of the table, and at a position that the zone meets, or the directory's
+    -- one of so many rows of the table, and at a position that the zone meets, or the directory's; row 0 is the directory, and no other row
     pub record IsOfCover (zone : Zone) (top h : KnownRow R) : Type 0 where
       pub there : h.row < count
+      pub placed : IsPlaced levels h.row h.place
       pub met : IsMet levels zone h.place
       pub level : h.place.level ≤ top.place.level
 

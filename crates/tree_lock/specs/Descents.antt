@@ -15,8 +15,7 @@ use Rattle.walk_core.specs.declared.pass.Stand.{Stand}
 use Rattle.walk_core.specs.Words.{is_link, held_by, stale}
 use Rattle.row_table.specs.declared.view.PassView.{PassView}
 use Rattle.row_table.specs.declared.view.HeldRow.{HeldRow as KnownRow}
-use Rattle.row_table.specs.Known.{IsAnother}
-use Rattle.row_table.specs.Rule.{levels_of}
+use Rattle.row_table.specs.Known.{IsAnother, IsPlaced}
 use Rattle.row_table.specs.Moves.{finding, NotInHand}
 use Rattle.tree_lock.specs.declared.zone.Zone.{Zone}
 use Rattle.tree_lock.specs.declared.zone.Zone.TheVariants.{Pages, Space, Directory}
@@ -68,7 +67,7 @@ module _ {R B E : Type 0} where
 
   -- the levels of the pass's table
   abbrev pub HasLevels : ℕ → PassView R B E → Type 0
-  HasLevels levels v = (levels < 6) × (levels_of v.layout ≡ levels)
+  HasLevels levels v = (levels < 6) × (v.layout.levels ≡ levels)
 
 module _ {R B E : Type 0} (levels : ℕ) where
   abbrev pub LooksOn : PassView R B E → Stand → ℕ → Option Stand → PassView R B E → Type 0
@@ -87,6 +86,7 @@ module _ {R B E : Type 0} (levels : ℕ) where
     pub is_top : IsTop levels zone only
     pub over : IsOver levels zone x.row x.place
     pub there : x.row < w.layout.rows
+    pub placed : IsPlaced levels x.row x.place
     pub reached : IsReached levels zone w.findings x.row x.place
     pub grabbed : IsGrabbed w.findings x.row x.place
 

@@ -16,7 +16,7 @@ use Rattle.walk_core.specs.Lists.{Has}
 use Rattle.row_table.specs.declared.view.PassView.{PassView}
 use Rattle.row_table.specs.Rows.{place_at}
 use Rattle.row_layout.specs.declared.places.Layout.{Layout}
-use Rattle.row_table.specs.Rule.{Table, levels_of}
+use Rattle.row_table.specs.Rule.{Table}
 use Rattle.row_table.specs.Close.{IsReached}
 use Rattle.tree_lock.specs.declared.zone.Zone.{Zone}
 use Rattle.tree_lock.specs.declared.zone.Zone.TheVariants.{Pages, Space, Directory}
@@ -60,12 +60,12 @@ IsAbsent words space = is_link (slice_index words (entry_at 0 space)) ≡ false
 
 module _ {R B E : Type 0} (k : Layout) where
   pub record ShowsCover (zone : Zone) (v : PassView R B E) : Type 0 where
-    pub is_zone : IsZone (levels_of k) zone
-    pub covers : CoversZone (levels_of k) k.rows zone v.rows
+    pub is_zone : IsZone k.levels zone
+    pub covers : CoversZone k.levels k.rows zone v.rows
     pub in_tree : AreInTree v
 
   pub record HoldsCover (zone : Zone) (words : List ℕ) (v : PassView R B E) : Type 0 where
-    pub is_zone : IsZone (levels_of k) zone
+    pub is_zone : IsZone k.levels zone
     pub all : (row : ℕ) → IsInCover zone words row → Has v.core.held row
 
   abbrev pub ShownAreHeld : Table R B E → Type 0

@@ -14,7 +14,7 @@ use Rattle.table_place.specs.Place.{is_place, entry_place}
 use Rattle.walk_core.specs.Words.{is_link, link_row, held_by}
 use Rattle.row_table.specs.declared.view.PassView.{PassView}
 use Rattle.row_table.specs.declared.view.HeldRow.{HeldRow as KnownRow}
-use Rattle.row_table.specs.Known.{IsAnother}
+use Rattle.row_table.specs.Known.{IsAnother, IsPlaced}
 use Rattle.row_table.specs.Moves.{finding, grabbed, NotInHand}
 use Rattle.tree_lock.specs.declared.zone.Zone.{Zone}
 use Rattle.tree_lock.specs.declared.held.HeldRow.{HeldRow}
@@ -85,6 +85,7 @@ module _ {R B E : Type 0} (levels : ℕ) where
     pub is_below : child.place ≡ entry_place levels at.place index
     pub table : is_place levels child.place ≡ true
     pub there : child.row < v.layout.rows
+    pub placed : IsPlaced levels child.row child.place
     pub generation : ℕ
     pub words : List ℕ
     pub content : R

@@ -1,6 +1,5 @@
 //! The lock on the rows that cover a zone.
 ghost use Rattle.std.specs.Prelude.{◌≡◌, ◌≤◌, [], None};
-ghost use Rattle.row_table.specs.Rule.{levels_of};
 ghost use Rattle.row_table.specs.Passes.{view_of, kit_of, table_of, layout_of, IsPassOf};
 ghost use Rattle.tree_lock.specs.Release.{MayReleaseAll};
 ghost use Rattle.tree_lock.specs.Zone.{IsZone};
@@ -72,14 +71,14 @@ pub fn try_cover<P: Plan>(
 ) -> Tried
     requires table { IsPassOf iron.now pass.old }
     requires free { IsFree (view_of pass.old) }
-    requires zone { IsZone (levels_of (layout_of iron.now)) zone.now }
+    requires zone { IsZone (layout_of iron.now).levels zone.now }
     requires empty { held.old.rows ≡ [] }
     requires room { (layout_of iron.now).rows ≤ held.old.room }
     ensures table { table_of pass.new ≡ table_of pass.old }
     ensures same { kit_of pass.new ≡ kit_of pass.old }
     ensures layout { (view_of pass.old).layout ≡ layout_of iron.now }
     ensures room { held.new.room ≡ held.old.room }
-    ensures tries { Tries (levels_of (layout_of iron.now)) zone.now (view_of pass.old) result (view_of pass.new) held.new.rows }
+    ensures tries { Tries (layout_of iron.now).levels zone.now (view_of pass.old) result (view_of pass.new) held.new.rows }
     ensures release { OnHeld result (MayReleaseAll P.meaning held.new.rows (view_of pass.new)) }
 {
     let Ok(()) = pass.enter(iron) else {

@@ -1,7 +1,7 @@
 //! What the passes that cover zones hold, as contracts of functions that do nothing.
 ghost use Rattle.std.specs.Prelude.{◌≡◌, ◌↔◌, ℕ, Bool};
 ghost use Rattle.row_layout.specs.declared.places.Layout.{Layout};
-ghost use Rattle.row_table.specs.Rule.{Table, Holds, levels_of};
+ghost use Rattle.row_table.specs.Rule.{Table, Holds};
 ghost use Rattle.tree_lock.specs.declared.zone.Zone.{Zone};
 ghost use Rattle.tree_lock.specs.declared.zone.Zone.TheVariants.{Pages};
 ghost use Rattle.tree_lock.specs.Zone.{ZoneHas, IsZone};
@@ -12,13 +12,13 @@ use row_table::Plan;
 /// Wherever the rule holds, the cover of each zone of pages has one top.
 pub fn a_zone_of_pages_has_one_top<P: Plan>()
     ensures { (k : Layout) (first : P.Book) (s : Table P.Row P.Book P.Entry) → Holds P.meaning k first s
-        → (space page count : ℕ) (strict : Bool) → IsZone (levels_of k) (Pages space page count strict) → HasOneTop (Pages space page count strict) s.words }
+        → (space page count : ℕ) (strict : Bool) → IsZone k.levels (Pages space page count strict) → HasOneTop (Pages space page count strict) s.words }
 {}
 
 /// Wherever the rule holds, the cover of a zone of an absent space is row 0 alone.
 pub fn an_absent_space_is_covered_by_row_0<P: Plan>()
     ensures { (k : Layout) (first : P.Book) (s : Table P.Row P.Book P.Entry) → Holds P.meaning k first s
-        → (zone : Zone) (space page : ℕ) → IsZone (levels_of k) zone → ZoneHas zone space page → IsAbsent s.words space → (row : ℕ) → IsInCover zone s.words row ↔ (row ≡ 0) }
+        → (zone : Zone) (space page : ℕ) → IsZone k.levels zone → ZoneHas zone space page → IsAbsent s.words space → (row : ℕ) → IsInCover zone s.words row ↔ (row ≡ 0) }
 {}
 
 /// Wherever the rule holds, a pass whose view tells that it covers a zone holds the rows of the zone's cover by the links

@@ -2,7 +2,6 @@
 ghost use Rattle.std.specs.Prelude.{◌≡◌, ◌<◌, Some, IsSome};
 ghost use Rattle.table_place.specs.Place.{entry_place};
 ghost use Rattle.walk_core.specs.Events.{top};
-ghost use Rattle.row_table.specs.Rule.{levels_of};
 ghost use Rattle.row_table.specs.Passes.{view_of, kit_of, table_of, layout_of, IsPassOf};
 ghost use Rattle.tree_lock.specs.declared.zone.Zone.{Zone};
 ghost use Rattle.tree_lock.specs.Zone.{IsZone, IsTable, Spans};
@@ -40,10 +39,9 @@ enum Last<R: Drop> {
 /// How many levels the page tables of a table of rows have.
 pub(crate) fn table_levels<P: Plan>(iron: &Iron<P>) -> u8
     ensures few { result < 6 }
-    ensures levels { levels_of (layout_of iron.now) ≡ result }
+    ensures levels { (layout_of iron.now).levels ≡ result }
 {
-    let _layout = iron.layout();
-    4
+    iron.layout().levels
 }
 
 // Looks at an entry of the row on which the pass stands, and follows a link there.

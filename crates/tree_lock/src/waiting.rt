@@ -1,7 +1,6 @@
 //! The lock on the rows that cover a zone, which waits for other passes.
 ghost use Rattle.std.specs.Prelude.{◌≡◌, ◌<◌, ◌≤◌, [], None, IfOk};
 ghost use Rattle.row_table.specs.declared.view.HeldRow.{HeldRow as KnownRow};
-ghost use Rattle.row_table.specs.Rule.{levels_of};
 ghost use Rattle.row_table.specs.Passes.{view_of, kit_of, table_of, layout_of, IsPassOf};
 ghost use Rattle.tree_lock.specs.Release.{MayReleaseAll};
 ghost use Rattle.tree_lock.specs.Zone.{IsZone, IsTable};
@@ -37,7 +36,7 @@ fn wait_top<P: Plan>(
     zone: &Zone,
 ) -> Result<HeldRow<P::Row>, Worn>
     requires table { IsPassOf iron.now pass.old }
-    requires levels { (levels < 6) × (levels_of (layout_of iron.now) ≡ levels) }
+    requires levels { (levels < 6) × ((layout_of iron.now).levels ≡ levels) }
     requires free { IsFree (view_of pass.old) }
     requires zone { IsZone levels zone.now }
     ensures table { table_of pass.new ≡ table_of pass.old }
@@ -137,14 +136,14 @@ pub fn cover<P: Plan>(
 ) -> Result<(), Worn>
     requires table { IsPassOf iron.now pass.old }
     requires free { IsFree (view_of pass.old) }
-    requires zone { IsZone (levels_of (layout_of iron.now)) zone.now }
+    requires zone { IsZone (layout_of iron.now).levels zone.now }
     requires empty { held.old.rows ≡ [] }
     requires room { (layout_of iron.now).rows ≤ held.old.room }
     ensures table { table_of pass.new ≡ table_of pass.old }
     ensures same { kit_of pass.new ≡ kit_of pass.old }
     ensures layout { (view_of pass.old).layout ≡ layout_of iron.now }
     ensures room { held.new.room ≡ held.old.room }
-    ensures waits { Waits (levels_of (layout_of iron.now)) zone.now (view_of pass.old) result (view_of pass.new) held.new.rows }
+    ensures waits { Waits (layout_of iron.now).levels zone.now (view_of pass.old) result (view_of pass.new) held.new.rows }
     ensures release { IfOk result (λ _. MayReleaseAll P.meaning held.new.rows (view_of pass.new)) }
 {
     let levels = table_levels(iron);

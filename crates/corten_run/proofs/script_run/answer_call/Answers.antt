@@ -4,8 +4,8 @@ use Rattle.corten_base.specs.declared.calls.Reply.{Reply}
 use Rattle.page_map.specs.State.{State}
 use Rattle.page_map.specs.Step.{step}
 use Rattle.text_words.specs.Layout.{ended}
-use Rattle.history_text.specs.HistoryText.{answer_line}
-use Rattle.history_text.specs.Outcomes.{GoesOn}
+use Rattle.history_lines.specs.HistoryText.{answer_line}
+use Rattle.history_lines.specs.Outcomes.{GoesOn}
 use Rattle.corten_run.proofs.script_run.answer_call.Goals as goal
 
 pub returns-clause-written : goal.returns-clause-written

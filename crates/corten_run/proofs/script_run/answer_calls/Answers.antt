@@ -4,11 +4,11 @@ use Rattle.page_map.specs.State.{IsConsistent}
 use Rattle.page_map.specs.Step.{step}
 use Rattle.page_map.proofs.StepKeeps.{step_keeps}
 use Rattle.text_words.specs.Layout.{ended}
-use Rattle.history_text.specs.HistoryText.{answer_line, lines_of}
+use Rattle.history_lines.specs.HistoryText.{answer_line, lines_of}
 use Rattle.byte_streams.proofs.Known.{risen}
 use Rattle.corten_run.specs.Solo.{answered, state_after_calls}
-use Rattle.history_text.proofs.Parts.{passed_start, part_of_all, passed_of_all}
-use Rattle.history_text.proofs.Parts.{next_of}
+use Rattle.history_lines.proofs.Parts.{passed_start, part_of_all, passed_of_all}
+use Rattle.history_lines.proofs.Parts.{next_of}
 use Rattle.corten_run.proofs.Answering.{next_line}
 use Rattle.corten_run.proofs.script_run.answer_calls.Goals as goal
 

@@ -3,9 +3,9 @@ use Rattle.std.proofs.Common.{◌<◌, ◌+◌, [], ◌∷◌, ◌++◌, ◌∙�
 use Rattle.page_map.specs.State.{IsConsistent}
 use Rattle.byte_streams.proofs.Known.{risen}
 use Rattle.corten_run.specs.Solo.{answered, all_answered, state_after_threads}
-use Rattle.history_text.specs.HistoryText.{lines_of}
-use Rattle.history_text.proofs.Parts.{passed_start, part_of_all, passed_of_all}
-use Rattle.history_text.proofs.Parts.{next_of}
+use Rattle.history_lines.specs.HistoryText.{lines_of}
+use Rattle.history_lines.proofs.Parts.{passed_start, part_of_all, passed_of_all}
+use Rattle.history_lines.proofs.Parts.{next_of}
 use Rattle.corten_run.proofs.Answering.{next_thread, calls_keep}
 use Rattle.corten_run.proofs.script_run.answer_threads.Goals as goal
 

@@ -1,9 +1,9 @@
 -- What was answered so far was passed on or waits, and the threads that are left are answered from the state that they left.
 use Rattle.std.proofs.Common.{◌≡◌, ◌≤◌, ℕ, List, ◌++◌, drop}
 use Rattle.page_map.specs.State.{IsConsistent}
-use Rattle.history_text.specs.Writing.{PassedOn}
+use Rattle.history_lines.specs.Writing.{PassedOn}
 use Rattle.corten_run.specs.Solo.{all_answered, state_after_threads}
-use Rattle.history_text.specs.HistoryText.{lines_of}
+use Rattle.history_lines.specs.HistoryText.{lines_of}
 use Rattle.corten_run.proofs.script_run.answer_threads.Given as goal
 
 abbrev pub invariant-loop-calls : goal.invariant-loop-calls

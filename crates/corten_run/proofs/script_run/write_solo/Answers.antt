@@ -1,7 +1,7 @@
 -- The header, the answered calls and the accounts are the text.
 use Rattle.std.proofs.Common.{◌∙◌, refl, ap}
 use Rattle.page_map.specs.State.{accounts}
-use Rattle.history_text.proofs.Parts.{finished}
+use Rattle.history_lines.proofs.Parts.{finished}
 use Rattle.corten_run.proofs.Texts.{all_is, part_of_solo}
 use Rattle.corten_run.proofs.script_run.write_solo.Goals as goal
 

@@ -2,9 +2,9 @@ use Rattle.std.proofs.Common.{◌≡◌, refl, sym, ap, ◌∙◌}
 use Rattle.std.proofs.lemmas.Bool.{false≢true}
 use Rattle.corten_base.specs.declared.numbers.Accounts.{Accounts}
 use Rattle.page_map.specs.State.{accounts}
-use Rattle.history_text.specs.Accounting.{frames_counts, swap_counts}
-use Rattle.history_text.specs.Wrong.{WrongAccount}
-use Rattle.history_text.proofs.Closings.{right_accounts, tables_from_own, own_from_tables}
+use Rattle.history_lines.specs.Accounting.{frames_counts, swap_counts}
+use Rattle.history_lines.specs.Wrong.{WrongAccount}
+use Rattle.history_lines.proofs.Closings.{right_accounts, tables_from_own, own_from_tables}
 use Rattle.history_text.proofs.checking.first_wrong_account.Goals as goal
 
 pub returns-then-not-are_tables_right-clause-wrong : goal.returns-then-not-are_tables_right-clause-wrong

@@ -1,7 +1,7 @@
 use Rattle.std.proofs.Common.{◌<◌, length, sym, ◌∙◌, arith}
 use Rattle.std.proofs.lemmas.Bool.{false≢true}
-use Rattle.history_text.proofs.Parts.{next_of}
-use Rattle.history_text.proofs.Verdicts.{legal_more, after_more, wrong_at}
+use Rattle.history_lines.proofs.Parts.{next_of}
+use Rattle.history_lines.proofs.Verdicts.{legal_more, after_more, wrong_at}
 use Rattle.history_text.proofs.checking.first_wrong_entry.Goals as goal
 
 pub returns-then-not-branch-clause-wrong : goal.returns-then-not-branch-clause-wrong

@@ -1,4 +1,4 @@
-use Rattle.history_text.proofs.Closings.{closed_has_text}
+use Rattle.history_lines.proofs.Closings.{closed_has_text}
 use Rattle.history_text.proofs.Reached.{history_entries}
 use Rattle.history_text.proofs.laws.a_legal_history_has_a_text.Goals as goal
 

@@ -1,7 +1,8 @@
 use Rattle.std.proofs.Common.{refl, ◌∙◌, ap, arith, ◌+◌}
 use Rattle.row_table.specs.declared.view.PassView.{PassView}
 use Rattle.row_table.specs.Passes.{view_of, table_of, kit_of}
-use Rattle.tree_lock.proofs.Growing.{met_at, table_of_met, are_there, holds_more, going_start, going_end, barred, stage_barred, stage_child, same_on, kept_barred, walked_none, walked_child, walked_same, holds_child, fresh_child}
+use Rattle.tree_lock.proofs.Levels.{levels_kept}
+use Rattle.tree_lock.proofs.Growing.{met_at, table_of_met, are_there, holds_more, going_start, going_end, barred, stage_barred, stage_child, same_on, kept_barred, kept_child, walked_none, walked_child, walked_same, holds_child, fresh_child}
 use Rattle.tree_lock.proofs.below.+take_below.Goals.{in-Nothing, in-Got+in-None}
 use Rattle.tree_lock.proofs.below.+take_below.Goals as goal
 
@@ -110,3 +111,35 @@ loop-index-preserved g t c =
 
 pub returns-clause-takes : goal.returns-clause-takes
 returns-clause-takes g t c = going_end c.args.levels _ c.args.at _ _ c.loop-index.index _ _ c.loop-index.invariant.walked.going c.loop-index-test.false c.met-entries.ensures.all
+
+pub take_child-requires-clause-table : goal.take_child-requires-clause-table
+take_child-requires-clause-table g t c κs within = c.loop-index.invariant.table ∙ c.requires.table
+
+pub take_child-requires-clause-levels : goal.take_child-requires-clause-levels
+take_child-requires-clause-levels g t c κs within = levels_kept c.args.levels (view_of c.args.pass.now) (view_of c.loop-index.pass) c.loop-index.invariant.walked.kept c.requires.levels
+
+pub take_below-requires-clause-table : goal.take_below-requires-clause-table
+take_below-requires-clause-table g t c κs within = c.take_child.ensures.table ∙ c.loop-index.invariant.table ∙ c.requires.table
+
+pub take_below-requires-clause-levels : goal.take_below-requires-clause-levels
+take_below-requires-clause-levels g t c κs within = let old = levels_kept c.args.levels (view_of c.args.pass.now) (view_of c.loop-index.pass) c.loop-index.invariant.walked.kept c.requires.levels in
+    (old.0, ap (λ (y : _). y.layout.levels) c.in-Got.ensures.takes.now ∙ old.1)
+
+pub returns-in-Busy-clause-table : goal.returns-in-Busy-clause-table
+returns-in-Busy-clause-table g t c = c.take_child.ensures.table ∙ c.loop-index.invariant.table
+
+pub returns-in-Busy-clause-same : goal.returns-in-Busy-clause-same
+returns-in-Busy-clause-same g t c = c.take_child.ensures.same ∙ c.loop-index.invariant.kit
+
+pub returns-in-Some-clause-table : goal.returns-in-Some-clause-table
+returns-in-Some-clause-table g t c = c.take_below.ensures.table ∙ c.take_child.ensures.table ∙ c.loop-index.invariant.table
+
+pub returns-in-Some-clause-same : goal.returns-in-Some-clause-same
+returns-in-Some-clause-same g t c = c.take_below.ensures.same ∙ c.take_child.ensures.same ∙ c.loop-index.invariant.kit
+
+pub returns-in-Some-clause-kept : goal.returns-in-Some-clause-kept
+returns-in-Some-clause-kept g t c = let now = same_on (view_of c.args.pass.now) (view_of c.loop-index.pass) (view_of c.take_child.new.pass) c.loop-index.invariant.walked.kept (kept_child c.args.levels (view_of c.loop-index.pass) (view_of c.take_child.new.pass) _ _ c.args.at c.loop-index.index c.in-Got.child c.in-Got.ensures.takes) in
+    same_on (view_of c.args.pass.now) (view_of c.take_child.new.pass) (view_of c.take_below.new.pass) now c.take_below.ensures.kept
+
+pub returns-in-Some-clause-epoch : goal.returns-in-Some-clause-epoch
+returns-in-Some-clause-epoch g t c = c.take_below.ensures.epoch ∙ ap (λ (y : _). y.epoch) c.in-Got.ensures.takes.now ∙ c.loop-index.invariant.walked.epoch

@@ -3,7 +3,7 @@ use Rattle.tree_lock.proofs.descent.take_here.Goals as goal
 
 pub returns-in-Got-clause-takes : goal.returns-in-Got-clause-takes
 returns-in-Got-clause-takes g c zone z over way = let t = c.in-Got.ensures.grabs in
-    got_here c.args.levels zone _ _ _ c.args.at c.args.way c.in-Got.content c.requires.stands t.0 t.2 c.look_there.ensures.shows z over c.requires.here way
+    got_here c.args.levels zone _ _ _ c.args.at c.args.way c.in-Got.content c.requires.levels c.requires.stands t.0 t.2 c.look_there.ensures.shows z over c.requires.here way
 
 pub returns-in-Held-clause-takes : goal.returns-in-Held-clause-takes
 returns-in-Held-clause-takes g c zone z over way = let t = c.in-Held.ensures.grabs in

@@ -3,7 +3,7 @@ use Rattle.tree_lock.proofs.descent.take_last.Goals as goal
 
 pub returns-in-None-clause-takes : goal.returns-in-None-clause-takes
 returns-in-None-clause-takes g c zone z pages over below = let t = c.in-Got.ensures.grabs in
-    got_last c.args.levels zone _ _ _ c.args.at c.args.index c.in-Got.content c.requires.stands t.0 t.2 c.in-None.ensures.looks z pages over c.requires.inside below
+    got_last c.args.levels zone _ _ _ c.args.at c.args.index c.in-Got.content c.requires.levels c.requires.stands t.0 t.2 c.in-None.ensures.looks z pages over c.requires.inside below
 
 pub returns-in-Held-clause-takes : goal.returns-in-Held-clause-takes
 returns-in-Held-clause-takes g c zone z pages over below = let t = c.in-Held.ensures.grabs in

@@ -2,6 +2,7 @@ use Rattle.std.proofs.Common.{refl, ◌∙◌, ap, arith, ◌+◌}
 use Rattle.row_table.specs.declared.view.PassView.{PassView}
 use Rattle.row_table.specs.Passes.{view_of, table_of, kit_of}
 use Rattle.tree_lock.specs.Waits.{has_found}
+use Rattle.tree_lock.proofs.Levels.{levels_kept}
 use Rattle.tree_lock.proofs.Growing.{met_at, table_of_met, are_there, holds_more, going_start, going_end, stage_child, walked_none, walked_child, walked_same, holds_child, fresh_child}
 use Rattle.tree_lock.proofs.Retries.{walked_found}
 use Rattle.tree_lock.proofs.waiting.+wait_below.Goals.{in-None, in-Some}
@@ -97,3 +98,16 @@ loop-index-preserved g t c =
             walked = walked_same c.args.levels zone at v _ (view_of b.wait_below.new.pass) _ _ _ (i + 1) (ap (λ (p : _). view_of p) b.pass-is) (ap (λ (h : _). h.rows) b.held-is) done;
           }
     ]
+
+pub wait_child-requires-clause-table : goal.wait_child-requires-clause-table
+wait_child-requires-clause-table g t c κs within = c.loop-index.invariant.table ∙ c.requires.table
+
+pub wait_child-requires-clause-levels : goal.wait_child-requires-clause-levels
+wait_child-requires-clause-levels g t c κs within = levels_kept c.args.levels (view_of c.args.pass.now) (view_of c.loop-index.pass) c.loop-index.invariant.walked.kept c.requires.levels
+
+pub wait_below-requires-clause-table : goal.wait_below-requires-clause-table
+wait_below-requires-clause-table g t c κs within = c.wait_child.ensures.table ∙ c.loop-index.invariant.table ∙ c.requires.table
+
+pub wait_below-requires-clause-levels : goal.wait_below-requires-clause-levels
+wait_below-requires-clause-levels g t c κs within = let old = levels_kept c.args.levels (view_of c.args.pass.now) (view_of c.loop-index.pass) c.loop-index.invariant.walked.kept c.requires.levels in
+    (old.0, ap (λ (y : _). y.layout.levels) c.in-Some.ensures.waits.1.now ∙ old.1)

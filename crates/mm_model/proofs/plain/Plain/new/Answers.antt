@@ -1,6 +1,4 @@
-use Rattle.std.proofs.Common.{◌≤◌, List, ℕ, ap, sym, subst, ◌∙◌}
-use Rattle.std.specs.FinMap as map
-use Rattle.std.specs.FinSet as set
+use Rattle.std.proofs.Common.{◌≤◌, List, ℕ, sym, subst, ◌∙◌}
 use Rattle.page_map.specs.State.{State, start, linked}
 use Rattle.page_map.proofs.Start.{start_is_consistent}
 use Rattle.mm_model.specs.Plain.{IsSound}
@@ -10,8 +8,8 @@ use Rattle.mm_model.proofs.plain.Plain.new.Goals as goal
 pub invariant_of-result-2 : goal.invariant_of-result-2
 unfolding start
 invariant_of-result-2 c =
-    let spaces = c.spaces.view_is ∙ c.in_ok-insert.ensures.ok ∙ (λ i. map.insert (c.new-spaces.ensures i) 0 (c.new.ensures i)) in
-    let tables = c.tables.view_is ∙ c.in_ok-insert-2.ensures.ok ∙ ap (λ s. set.insert s (record { space = 0; level = 4; prefix = 0 })) c.new-tables.ensures in
+    let spaces = c.spaces.view_is ∙ c.in_ok-spaces.ensures in
+    let tables = c.in_ok-tables.ensures in
     let P : State × List ℕ × List ℕ × List ℕ → Type 0 = λ x. IsSound x.0 x.1 x.2 x.3 in
     subst P (λ i. (record { spaces = sym spaces i; tables = sym tables i; limits = c.args.limits; files = sym c.shelf.view_is i }, sym c.in_ok-new.ensures i, sym c.in_ok-new-2.ensures i, sym c.in_ok-new-3.ensures i))
     (start_is_sound c.args.limits c.args.shelf c.requires)
@@ -19,8 +17,8 @@ invariant_of-result-2 c =
 pub returns-clause-ok : goal.returns-clause-ok
 unfolding start
 returns-clause-ok c =
-    let spaces = c.spaces.view_is ∙ c.in_ok-insert.ensures.ok ∙ (λ i. map.insert (c.new-spaces.ensures i) 0 (c.new.ensures i)) in
-    let tables = c.tables.view_is ∙ c.in_ok-insert-2.ensures.ok ∙ ap (λ s. set.insert s (record { space = 0; level = 4; prefix = 0 })) c.new-tables.ensures in
+    let spaces = c.spaces.view_is ∙ c.in_ok-spaces.ensures in
+    let tables = c.in_ok-tables.ensures in
     λ i. record { spaces = spaces i; tables = tables i; limits = c.args.limits; files = c.shelf.view_is i }
 
 pub returns-clause-fits : goal.returns-clause-fits

@@ -1,0 +1,13 @@
+pub mod Beginnings
+pub mod Bodies
+pub mod Closings
+pub mod CountLines
+pub mod Names
+pub mod OneEntry
+pub mod OneHistory
+pub mod OneReply
+pub mod OneVerdict
+pub mod Parts
+pub mod Readers
+pub mod Shelves
+pub mod Verdicts

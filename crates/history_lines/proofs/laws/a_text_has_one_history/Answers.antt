@@ -1,0 +1,5 @@
+use Rattle.history_lines.proofs.OneHistory.{one_history}
+use Rattle.history_lines.proofs.laws.a_text_has_one_history.Goals as goal
+
+pub returns : goal.returns
+returns c = one_history

@@ -1,0 +1,10 @@
+pub mod Accounting
+pub mod Checking
+pub mod Files
+pub mod HistoryText
+pub mod Outcomes
+pub mod Reading
+pub mod Replies
+pub mod ReplyNames
+pub mod Writing
+pub mod Wrong

@@ -1,0 +1,30 @@
+-- What the machine found is said of the history, whose lines before the entries are as many as it has files, and four more.
+use Rattle.std.proofs.Common.{◌≡◌, ◌+◌, ◌≤◌, length, sym, subst, ◌∙◌}
+use Rattle.page_map.specs.State.{State, linked}
+use Rattle.page_map.specs.History.{after}
+use Rattle.history_lines.specs.declared.history.History.{History}
+use Rattle.history_lines.proofs.Closings.{final, final_is_consistent}
+use Rattle.history_lines.proofs.Verdicts.{Found, found_at_entry, found_at_account, none_found}
+use Rattle.history_text.proofs.checking.judge.Goals as goal
+
+pub returns-in-Some : goal.returns-in-Some
+returns-in-Some c =
+    let h : History = c.args.history.now in
+    subst (λ n. Found h (5 + n + c.in-Some.place)) (sym (c.from-first.ensures ∙ c.count.ensures.value))
+    (found_at_entry h c.requires.text c.args.plain.now c.list-entries.result.now c.requires.start c.list-entries.ensures c.in-Some.place
+    (rw c.in-Some.is at c.in_ok-place.ensures.wrong))
+
+pub returns-in-Some-first_wrong_account : goal.returns-in-Some-first_wrong_account
+returns-in-Some-first_wrong_account c =
+    let h : History = c.args.history.now in
+    let right = none_found c.in_ok-place.field-0 _ c.in_default.not-Some c.in_ok-place.ensures.right in
+    subst (λ n. Found h (5 + n + length c.list-entries.result.now + c.in-Some-first_wrong_account.place)) (sym (c.from-first.ensures ∙ c.count.ensures.value))
+    (found_at_account h c.requires.text c.args.plain.now c.first_wrong_entry.new.plain c.list-entries.result.now c.requires.start c.list-entries.ensures right.0 right.1
+    c.in-Some-first_wrong_account.place c.in-Some-first_wrong_account.ensures.wrong)
+
+pub first_wrong_account-requires : goal.first_wrong_account-requires
+first_wrong_account-requires c =
+    let h : History = c.args.history.now in
+    let right = none_found c.in_ok-place.field-0 _ c.in_default.not-Some c.in_ok-place.ensures.right in
+    let state : c.first_wrong_entry.new.plain ≡ final h.limits h.shelf h.entries = right.1 ∙ (λ j. after (c.requires.start j) (c.list-entries.ensures j)) in
+    subst (λ (s : State). linked s ≤ s.limits.tables) (sym state) (final_is_consistent h.limits h.shelf h.entries c.requires.text.limits c.requires.text.entries).tables

@@ -1,5 +1,0 @@
-use Rattle.history_text.proofs.OneVerdict.{one_verdict}
-use Rattle.history_text.proofs.laws.a_history_has_one_verdict.Goals as goal
-
-pub returns : goal.returns
-returns c = one_verdict
