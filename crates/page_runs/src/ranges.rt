@@ -5,7 +5,7 @@ ghost use Rattle.std.specs.Ordering.{nat_cmp};
 ghost use Rattle.std.specs.BTreeMap.{IsOrdered};
 ghost use Rattle.page_runs.specs.Spans.{AreRuns, IsEdge, IsRun, Changes, mapped, marks, painted, protected, unmapped};
 
-use crate::edges::{join, split};
+use crate::edges::{join, join_run, split};
 use crate::mark::Mark;
 use crate::spans::{Span, Spans, add, first_in, put, take};
 use corten_base::Perm;
@@ -49,8 +49,8 @@ fn join_all(spans: &mut Spans, first: u64, end: u64)
     ensures same { marks spans.new ≡ marks spans.old }
 {
     let mut next = first;
-    while let Some((at, _)) = first_in(spans, next, end) {
-        join(spans, at);
+    while let Some((at, span)) = first_in(spans, next, end) {
+        join_run(spans, at, span);
         next = at + 1;
     }
     join(spans, end);
