@@ -1,4 +1,5 @@
 -- Runs of pages by their first pages.
+--     mapped, unmapped, protected      what stands at the pages of a space after those of a range changed
 --     span_at      the run that starts at a page
 --     marks      what the runs say of each page
 --     AreRuns      runs that have pages, and none in common
@@ -8,6 +9,7 @@
 --     painted      a run with other permissions
 --     Sets, Changes      one run is set;  the runs that start in a range change
 use Rattle.std.specs.Prelude.{◌≡◌, ℕ, ◌+◌, ◌-◌, ◌^◌, ◌<◌, ◌≤◌, ◌≢◌, List, [], ◌∷◌, Option, Some, None}
+use Rattle.std.specs.Option.{option_map}
 use Rattle.std.specs.Ordering.{nat_cmp}
 use Rattle.std.specs.BTreeMap.{BTreeMap, IsOrdered}
 use Rattle.std.specs.BTreeMap as tree
@@ -24,6 +26,19 @@ Spans = BTreeMap ℕ Span
 abbrev pub Marks : Type 0
 Marks = FinMap nat_cmp Mark
 
+-- marks that go on from one, in the place of what was there
+abbrev pub mapped : Marks → ℕ → ℕ → Mark → Marks
+mapped m first count mark = change m first count (λ page _. Some (goes_on mark (page - first)))
+
+-- no marks
+abbrev pub unmapped : Marks → ℕ → ℕ → Marks
+unmapped m first count = change m first count (λ _ _. None)
+
+-- other permissions where there are marks
+abbrev pub protected : Marks → ℕ → ℕ → Perm → Marks
+protected m first count perm = change m first count (λ _. option_map (with_perm perm))
+
+-- the run that starts at a page
 abbrev pub span_at : Spans → ℕ → Option Span
 span_at spans first = tree.get nat_cmp spans first
 

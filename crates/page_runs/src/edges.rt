@@ -1,6 +1,6 @@
 //! Splitting a run at a page, and joining two runs that meet there. Neither changes what stands at any page.
-ghost use Rattle.std.specs.Prelude.{◌≡◌, ℕ, ◌+◌, ◌<◌, ◌≤◌, OnOk};
-ghost use Rattle.page_runs.specs.Spans.{AreRuns, IsEdge, marks};
+ghost use Rattle.std.specs.Prelude.{◌≡◌, ℕ, ◌+◌, ◌<◌, ◌≤◌, Some, OnOk};
+ghost use Rattle.page_runs.specs.Spans.{AreRuns, IsEdge, marks, span_at};
 
 use crate::spans::{Span, Spans, add, at_or_before, put, take};
 use std::alloc::AllocError;
@@ -39,12 +39,21 @@ pub(crate) fn join(spans: &mut Spans, page: u64)
     ensures runs { AreRuns spans.new }
     ensures same { marks spans.new ≡ marks spans.old }
 {
+    if let Some(upper) = spans.get(&page).copied() {
+        join_run(spans, page, upper);
+    }
+}
+
+/// The same for a run that is known to start at the page.
+pub(crate) fn join_run(spans: &mut Spans, page: u64, upper: Span)
+    requires there { span_at spans.old page ≡ Some upper }
+    requires runs { AreRuns spans.old }
+    ensures runs { AreRuns spans.new }
+    ensures same { marks spans.new ≡ marks spans.old }
+{
     if page == 0 {
         return;
     }
-    let Some(upper) = spans.get(&page).copied() else {
-        return;
-    };
     let Some((first, lower)) = at_or_before(spans, page - 1) else {
         return;
     };

@@ -3,11 +3,9 @@ ghost use Rattle.std.specs.Prelude.{◌≡◌, ℕ, ◌+◌, ◌-◌, ◌^◌, �
 ghost use Rattle.std.specs.Option.{option_map};
 ghost use Rattle.std.specs.Ordering.{nat_cmp};
 ghost use Rattle.std.specs.BTreeMap.{IsOrdered};
-ghost use Rattle.page_map.specs.Change.{change};
-ghost use Rattle.page_runs.specs.Mark.{goes_on, index_of, with_perm};
-ghost use Rattle.page_runs.specs.Spans.{AreRuns, IsEdge, IsRun, Changes, marks, painted};
+ghost use Rattle.page_runs.specs.Spans.{AreRuns, IsEdge, IsRun, Changes, mapped, marks, painted, protected, unmapped};
 
-use crate::edges::{join, split};
+use crate::edges::{join, join_run, split};
 use crate::mark::Mark;
 use crate::spans::{Span, Spans, add, first_in, put, take};
 use corten_base::Perm;
@@ -51,8 +49,8 @@ fn join_all(spans: &mut Spans, first: u64, end: u64)
     ensures same { marks spans.new ≡ marks spans.old }
 {
     let mut next = first;
-    while let Some((at, _)) = first_in(spans, next, end) {
-        join(spans, at);
+    while let Some((at, span)) = first_in(spans, next, end) {
+        join_run(spans, at, span);
         next = at + 1;
     }
     join(spans, end);
@@ -63,7 +61,7 @@ pub(crate) fn remove(spans: &mut Spans, first: u64, count: u64) -> Result<(), Al
     requires fits { first + count < 2 ^ 64 }
     requires runs { AreRuns spans.old }
     ensures runs { AreRuns spans.new }
-    ensures ok { OnOk result (marks spans.new ≡ change (marks spans.old) first count (λ _ _. None)) }
+    ensures ok { OnOk result (marks spans.new ≡ unmapped (marks spans.old) first count) }
     ensures err { OnErr result (marks spans.new ≡ marks spans.old) }
 {
     let end = first + count;
@@ -78,7 +76,7 @@ pub(crate) fn replace(spans: &mut Spans, first: u64, span: Span) -> Result<(), A
     requires new { IsRun first span }
     requires runs { AreRuns spans.old }
     ensures runs { AreRuns spans.new }
-    ensures ok { OnOk result (marks spans.new ≡ change (marks spans.old) first span.count (λ page _. Some (goes_on span.mark (page - first)))) }
+    ensures ok { OnOk result (marks spans.new ≡ mapped (marks spans.old) first span.count span.mark) }
     ensures err { OnErr result (marks spans.new ≡ marks spans.old) }
 {
     let end = first + span.count;
@@ -101,7 +99,7 @@ pub(crate) fn protect(
     requires fits { first + count < 2 ^ 64 }
     requires runs { AreRuns spans.old }
     ensures runs { AreRuns spans.new }
-    ensures ok { OnOk result (marks spans.new ≡ change (marks spans.old) first count (λ _. option_map (with_perm perm))) }
+    ensures ok { OnOk result (marks spans.new ≡ protected (marks spans.old) first count perm) }
     ensures err { OnErr result (marks spans.new ≡ marks spans.old) }
 {
     let end = first + count;

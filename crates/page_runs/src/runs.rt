@@ -2,8 +2,9 @@
 ghost use Rattle.std.specs.Prelude.{◌≡◌, ℕ, ◌+◌, ◌-◌, ◌^◌, ◌<◌, ◌≤◌, Some, None, IfOk, IfSome, IfNone, OnOk, OnErr, is_some, is_none};
 ghost use Rattle.std.specs.Option.{option_map};
 ghost use Rattle.std.specs.FinMap as map;
-ghost use Rattle.page_map.specs.Change.{change, least};
+ghost use Rattle.page_map.specs.Change.{least};
 ghost use Rattle.page_runs.specs.Mark.{goes_on, index_of, with_perm};
+ghost use Rattle.page_runs.specs.Spans.{mapped, protected, unmapped};
 ghost use Rattle.page_runs.specs.Runs.{IsPart, HasNone, IsStretch, is_vacant};
 
 use crate::mark::Mark;
@@ -69,7 +70,7 @@ impl PageRuns {
         }
     }
 
-    /// The first pages of a range that have marks, as far as they go on from one another in one run.
+    /// The first pages of a range that have marks, as far as they are in one run.
     pub fn part(&self, first: u64, end: u64) -> Option<Run>
         requires { first ≤ end }
         ensures some { IfSome result (IsPart self.now first end) }
@@ -167,7 +168,7 @@ impl PageRuns {
         requires some { 0 < run.count }
         requires pages { run.first + run.count < 2 ^ 64 }
         requires indexes { index_of run.mark.backing + run.count < 2 ^ 64 }
-        ensures ok { OnOk result (self.new ≡ change self.old run.first run.count (λ page _. Some (goes_on run.mark (page - run.first)))) }
+        ensures ok { OnOk result (self.new ≡ mapped self.old run.first run.count run.mark) }
         ensures err { OnErr result (self.new ≡ self.old) }
     {
         let span = Span {
@@ -180,7 +181,7 @@ impl PageRuns {
     /// Takes the marks of a range out.
     pub fn remove(&mut self, first: u64, count: u64) -> Result<(), AllocError>
         requires { first + count < 2 ^ 64 }
-        ensures ok { OnOk result (self.new ≡ change self.old first count (λ _ _. None)) }
+        ensures ok { OnOk result (self.new ≡ unmapped self.old first count) }
         ensures err { OnErr result (self.new ≡ self.old) }
     {
         ranges::remove(&mut self.spans, first, count)
@@ -189,7 +190,7 @@ impl PageRuns {
     /// Gives the marks of a range other permissions.
     pub fn protect(&mut self, first: u64, count: u64, perm: Perm) -> Result<(), AllocError>
         requires { first + count < 2 ^ 64 }
-        ensures ok { OnOk result (self.new ≡ change self.old first count (λ _. option_map (with_perm perm))) }
+        ensures ok { OnOk result (self.new ≡ protected self.old first count perm) }
         ensures err { OnErr result (self.new ≡ self.old) }
     {
         ranges::protect(&mut self.spans, first, count, perm)
