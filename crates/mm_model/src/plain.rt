@@ -18,12 +18,18 @@ use table_place::Place;
 /// above them.
 #[derive(Drop)]
 pub struct Plain {
+    // The cells of each space that is present, by page.
     pub(crate) spaces: Spaces,
+    // The page tables that are there, of all spaces.
     pub(crate) tables: Tables,
     pub(crate) limits: Limits,
+    // The files, by number.
     pub(crate) shelf: Shelf,
+    // How many keys carry each frame, and which frames none carries.
     pub(crate) frames: Owners,
+    // The same of swap slots.
     pub(crate) slots: Owners,
+    // How many pages from the beginning of each arena are known to be full, so that no search for a gap goes over them.
     pub(crate) fronts: Fronts,
 }
 

@@ -1,4 +1,5 @@
-//! What the plain machine keeps of its spaces: their cells by page; accesses and mapping operations on the cells of one space.
+//! What the plain machine keeps of its spaces: their cells by page; accesses, mapping operations, moves to swap and
+//! copies.
 #![tactic(auto)]
 
 mod access;
