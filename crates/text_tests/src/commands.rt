@@ -60,50 +60,128 @@ const THIRD_WRITE_FAILS: Devices = Devices {
     writes: &[2],
 };
 
-/// Runs a command over a text, and answers the status and what was written.
-fn run(
+/// A command over a text, and the status and the text that it ends with.
+struct Row {
+    word: &'static str,
+    text: &'static str,
+    devices: Devices,
+    status: u8,
+    wanted: &'static str,
+}
+
+const ROWS: [Row; 9] = [
+    Row {
+        word: "solo",
+        text: SCRIPT,
+        devices: BYTEWISE,
+        status: 0,
+        wanted: HISTORY,
+    },
+    Row {
+        word: "solo",
+        text: "frames 0\n",
+        devices: LARGE,
+        status: 1,
+        wanted: "bad 1\n",
+    },
+    Row {
+        word: "sola",
+        text: SCRIPT,
+        devices: LARGE,
+        status: 2,
+        wanted: USAGE,
+    },
+    Row {
+        word: "solo",
+        text: SCRIPT,
+        devices: FIRST_READ_FAILS,
+        status: 3,
+        wanted: "",
+    },
+    Row {
+        word: "solo",
+        text: SCRIPT,
+        devices: FOURTH_READ_FAILS,
+        status: 3,
+        wanted: "",
+    },
+    Row {
+        word: "solo",
+        text: SCRIPT,
+        devices: FIRST_WRITE_FAILS,
+        status: 4,
+        wanted: "",
+    },
+    Row {
+        word: "solo",
+        text: SCRIPT,
+        devices: THIRD_WRITE_FAILS,
+        status: 4,
+        wanted: "corten 1\nframes 2\ntables 8\nswap ",
+    },
+    Row {
+        word: "check",
+        text: HISTORY,
+        devices: BYTEWISE,
+        status: 0,
+        wanted: "legal 3\n",
+    },
+    Row {
+        word: "check",
+        text: ILLEGAL,
+        devices: LARGE,
+        status: 6,
+        wanted: "illegal 8\n",
+    },
+];
+
+/// A source of a text.
+fn source_of(alloc: Global, text: &[u8], devices: Devices) -> Result<MemSource, AllocError> {
+    let bytes = Vec::from_slice(alloc, text)?;
+    let failing = Vec::from_slice(alloc, devices.reads)?;
+    Ok(MemSource::new(bytes, devices.piece.max(1), failing))
+}
+
+/// A sink with room for a short history.
+fn sink_of(alloc: Global, devices: Devices) -> Result<MemSink, AllocError> {
+    let failing = Vec::from_slice(alloc, devices.writes)?;
+    MemSink::new(alloc, 10_000, devices.piece.max(1), failing)
+}
+
+/// The words of a command.
+fn words_of(alloc: Global, word: &str) -> Result<Vec<String>, AllocError> {
+    let mut words = Vec::new(alloc);
+    words.push(String::from_str(alloc, word)?)?;
+    Ok(words)
+}
+
+/// Whether a command over a text ends with this status and writes this.
+fn ends_with(
     alloc: Global,
     word: &str,
     text: &[u8],
     devices: Devices,
-) -> Result<(u8, Vec<u8>), AllocError> {
-    let mut words = Vec::new(alloc);
-    words.push(String::from_str(alloc, word)?)?;
-    let bytes = Vec::from_slice(alloc, text)?;
-    let piece = devices.piece.max(1);
-    let mut source = MemSource::new(bytes, piece, Vec::from_slice(alloc, devices.reads)?);
-    let mut sink = MemSink::new(
-        alloc,
-        10_000,
-        piece,
-        Vec::from_slice(alloc, devices.writes)?,
-    )?;
-    let status = corten_plain(alloc, words.as_slice(), &mut source, &mut sink);
-    Ok((status, Vec::from_slice(alloc, sink.bytes())?))
+    status: u8,
+    wanted: &[u8],
+) -> Result<bool, AllocError> {
+    let words = words_of(alloc, word)?;
+    let mut source = source_of(alloc, text, devices)?;
+    let mut sink = sink_of(alloc, devices)?;
+    let found = corten_plain(alloc, words.as_slice(), &mut source, &mut sink);
+    Ok(found == status && sink.bytes() == wanted)
+}
+
+/// Whether a row's command ends so.
+fn holds(alloc: Global, row: &Row) -> Result<bool, AllocError> {
+    let text = row.text.as_bytes();
+    let wanted = row.wanted.as_bytes();
+    ends_with(alloc, row.word, text, row.devices, row.status, wanted)
 }
 
 #[test]
 fn commands_end_with_their_status(rt: HostRuntime) -> Result<(), Fail> {
-    for (word, text, devices, status, wanted) in [
-        ("solo", SCRIPT, BYTEWISE, 0, HISTORY),
-        ("solo", "frames 0\n", LARGE, 1, "bad 1\n"),
-        ("sola", SCRIPT, LARGE, 2, USAGE),
-        ("solo", SCRIPT, FIRST_READ_FAILS, 3, ""),
-        ("solo", SCRIPT, FOURTH_READ_FAILS, 3, ""),
-        ("solo", SCRIPT, FIRST_WRITE_FAILS, 4, ""),
-        (
-            "solo",
-            SCRIPT,
-            THIRD_WRITE_FAILS,
-            4,
-            "corten 1\nframes 2\ntables 8\nswap ",
-        ),
-        ("check", HISTORY, BYTEWISE, 0, "legal 3\n"),
-        ("check", ILLEGAL, LARGE, 6, "illegal 8\n"),
-    ] {
-        let (found, written) = run(rt.alloc(), word, text.as_bytes(), devices)?;
-        assert_eq!(rt; found, status, "{word}");
-        assert_eq!(rt; written.as_slice(), wanted.as_bytes());
+    for row in &ROWS {
+        assert!(rt; holds(rt.alloc(), row)?, "status {}", row.status);
     }
     Ok(())
 }
@@ -112,8 +190,7 @@ fn commands_end_with_their_status(rt: HostRuntime) -> Result<(), Fail> {
 fn is_cut_refused(alloc: Global, text: &[u8]) -> Result<bool, AllocError> {
     let newlines = text.iter().filter(|byte| **byte == b'\n').count();
     let wanted = format!(in alloc; "bad {}\n", newlines as u64 + 1)?;
-    let (status, written) = run(alloc, "check", text, LARGE)?;
-    Ok(status == 1 && written.as_slice() == wanted.as_bytes())
+    ends_with(alloc, "check", text, LARGE, 1, wanted.as_bytes())
 }
 
 #[test]

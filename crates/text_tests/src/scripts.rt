@@ -4,8 +4,8 @@ use mm_script::{ScriptFault, file_of, print_call, push_file, read_call, read_scr
 use std::alloc::{AllocError, Global};
 use std::test::Fail;
 
-/// The limits of a script, its files and each thread's calls, counted.
-fn counts_of(alloc: Global, text: &str) -> Result<Vec<u64>, ScriptFault> {
+/// Whether these are the limits of a script, its files and each thread's calls, counted.
+fn has_counts(alloc: Global, text: &str, wanted: &[u64]) -> Result<bool, ScriptFault> {
     let script = read_script(alloc, text.as_bytes())?;
     let Limits {
         frames,
@@ -19,27 +19,29 @@ fn counts_of(alloc: Global, text: &str) -> Result<Vec<u64>, ScriptFault> {
     for thread in script.threads.list() {
         counts.push(thread.list().len() as u64)?;
     }
-    Ok(counts)
+    Ok(counts.as_slice() == wanted)
 }
 
 #[test]
 fn scripts_are_read(rt: HostRuntime) -> Result<(), Fail> {
-    let first = counts_of(
-        rt.alloc(),
-        "frames 2\n\ntables 8\n# no swap\nswap 0\nthread\nmap 0 any 1 rw- zero\nstore 0 0x8000000000 6869\n",
-    )?;
-    assert_eq!(rt; first.as_slice(), [2, 8, 0, 0, 2].as_slice());
-    let files = counts_of(
-        rt.alloc(),
-        "frames 2\ntables 8\nswap 1\nfile 68656c6c6f\n# no byte\nfile -\nthread\nthread\nspawn\n",
-    )?;
-    assert_eq!(rt; files.as_slice(), [2, 8, 1, 2, 0, 1].as_slice());
+    for (text, counts) in [
+        (
+            "frames 2\n\ntables 8\n# no swap\nswap 0\nthread\nmap 0 any 1 rw- zero\nstore 0 0x8000000000 6869\n",
+            [2, 8, 0, 0, 2].as_slice(),
+        ),
+        (
+            "frames 2\ntables 8\nswap 1\nfile 68656c6c6f\n# no byte\nfile -\nthread\nthread\nspawn\n",
+            [2, 8, 1, 2, 0, 1].as_slice(),
+        ),
+    ] {
+        assert!(rt; has_counts(rt.alloc(), text, counts)?, "{text}");
+    }
     Ok(())
 }
 
 /// The number behind `bad`, or 0.
 fn bad(alloc: Global, text: &str) -> u64 {
-    match counts_of(alloc, text) {
+    match read_script(alloc, text.as_bytes()) {
         Err(ScriptFault::Bad(line)) => line,
         _ => 0,
     }

@@ -10,11 +10,11 @@ const READ_WRITE: Perm = Perm {
     exec: false,
 };
 
-/// Words as they are printed.
-fn printed(alloc: Global, words: &[Word<'_>]) -> Result<Vec<u8>, AllocError> {
+/// Whether words are printed so.
+fn are_printed(alloc: Global, words: &[Word<'_>], wanted: &[u8]) -> Result<bool, AllocError> {
     let mut out = Vec::new(alloc);
     push_words(&mut out, words)?;
-    Ok(out)
+    Ok(out.as_slice() == wanted)
 }
 
 #[test]
@@ -28,10 +28,8 @@ fn words_are_printed(rt: HostRuntime) -> Result<(), Fail> {
         Word::Hex(b"hi\x00"),
         Word::Permission(READ_WRITE),
     ];
-    assert_eq!(rt;
-        printed(rt.alloc(), &words)?.as_slice(),
-        b"store 0 18446744073709551615 0x0 0x8000000000 686900 rw-".as_slice()
-    );
+    let wanted = b"store 0 18446744073709551615 0x0 0x8000000000 686900 rw-";
+    assert!(rt; are_printed(rt.alloc(), &words, wanted)?);
     Ok(())
 }
 
@@ -56,19 +54,21 @@ fn numbers_and_addresses_are_read(rt: HostRuntime) {
     }
 }
 
-/// The bytes that a word spells, or none.
-fn bytes_of(alloc: Global, word: &[u8]) -> Result<Vec<u8>, AllocError> {
+/// Whether a word spells these bytes, or none where there are none.
+fn spells(alloc: Global, word: &[u8], bytes: &[u8]) -> Result<bool, AllocError> {
     match read_hex(alloc, word)? {
-        Some(bytes) => Ok(bytes),
-        None => Ok(Vec::new(alloc)),
+        Some(found) => Ok(found.as_slice() == bytes),
+        None => Ok(bytes.is_empty()),
     }
 }
 
 #[test]
 fn bytes_and_permissions_are_read(rt: HostRuntime) -> Result<(), Fail> {
     for (word, bytes) in [("686900", "hi\x00"), ("6", ""), ("6A", "")] {
-        let found = bytes_of(rt.alloc(), word.as_bytes())?;
-        assert_eq!(rt; found.as_slice(), bytes.as_bytes());
+        assert!(rt;
+            spells(rt.alloc(), word.as_bytes(), bytes.as_bytes())?,
+            "{word}"
+        );
     }
     for (word, perm) in [("rw-", Some(READ_WRITE)), ("wr-", None), ("rw", None)] {
         assert_eq!(rt; read_perm(word.as_bytes()), perm);
