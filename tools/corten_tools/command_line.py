@@ -45,9 +45,13 @@ def take_options(words, names):
 
 
 def run(main, usage):
-    """Runs `main(words)`, and ends with its status: 2 for words and input that are wrong."""
+    """Runs `main(words)`, and ends with its status: 2 for words, input and output that are wrong."""
     try:
-        status = main(sys.argv[1:])
+        if sys.argv[1:] in (["--help"], ["-h"]):
+            print(usage)
+            status = 0
+        else:
+            status = main(sys.argv[1:])
         sys.stdout.flush()
     except Usage as error:
         print(f"{error}\n{usage}" if str(error) else usage, file=sys.stderr)
@@ -58,6 +62,10 @@ def run(main, usage):
     except BrokenPipeError:
         os.dup2(os.open(os.devnull, os.O_WRONLY), 1)
         status = 0
+    except OSError as error:
+        print(f"the output: {error.strerror}", file=sys.stderr)
+        os.dup2(os.open(os.devnull, os.O_WRONLY), 1)
+        status = 2
     except KeyboardInterrupt:
         status = 130
     except Exception as error:  # no traceback for a reader who can't mend it
