@@ -2,6 +2,8 @@
 #![tactic(auto)]
 
 #[cfg(test)]
+mod embedding;
+#[cfg(test)]
 mod machine_tests;
 #[cfg(test)]
 mod page_tests;
