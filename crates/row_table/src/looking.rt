@@ -1,4 +1,4 @@
-//! Look.
+//! The look: a pass reads an entry, and a link leads it on.
 ghost use Rattle.std.specs.Prelude.{◌≡◌, ◌<◌};
 ghost use Rattle.row_table.specs.Passes.{view_of, kit_of, table_of, IsPassOf};
 ghost use Rattle.row_table.specs.Looks.{MayLook, Looks};
