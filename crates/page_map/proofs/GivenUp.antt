@@ -76,7 +76,7 @@ module _ (is_given_up : Place → Bool) (tables : Tables) where
 
 module _ (st : State) (thread limbo : ℕ) (c : Call) (none : refusal st thread c limbo ≡ None) where
   -- what is given up is not wanted
-  not_wanted : (p : Place) → is_given_up st c p ≡ true → is_wanted (wanted_tables st thread c) p ≡ false
+  pub not_wanted : (p : Place) → is_given_up st c p ≡ true → is_wanted (wanted_tables st thread c) p ≡ false
   not_wanted = by_call c
     where
       by_call : (c : Call) (p : Place) → is_given_up st c p ≡ true → is_wanted (wanted_tables st thread c) p ≡ false
@@ -96,7 +96,7 @@ module _ (st : State) (thread limbo : ℕ) (c : Call) (none : refusal st thread 
   pub given_apart : (p : Place) → is_given_up st c p ≡ true → set.contains (set.from_list {R = place_cmp} (wanted_tables st thread c)) p ≡ false
   given_apart p h = contains-from_list place_total (wanted_tables st thread c) p ∙ not_wanted p h
 
-  after_len : linked (state_after st thread c) + set.len (set.retain st.tables (is_given_up st c)) ≡ linked st + need (wanted_tables st thread c) st.tables
+  pub after_len : linked (state_after st thread c) + set.len (set.retain st.tables (is_given_up st c)) ≡ linked st + need (wanted_tables st thread c) st.tables
   unfolding state_after
   after_len = left_len (is_given_up st c) st.tables (wanted_tables st thread c) not_wanted
 
