@@ -1,6 +1,6 @@
 -- Pages that have frames or slots, by page.
 --     held_at      the held page at a page
---     Sets, SetsBoth      one page is set;  two pages are
+--     Sets, SetsBoth      what one page holds is set;  and then what another one holds
 --     Clears      no page of a range is held any more
 --     IsFirstHeld      the first held page of a range, with its number
 --     numbers_held      the numbers of the held pages of a range, in the order of the pages
@@ -26,9 +26,9 @@ pub record Sets (old new : HeldPages) (page : ℕ) (held : Option HeldPage) : Ty
 
 -- the one and then the other
 pub record SetsBoth (old new : HeldPages) (near far : ℕ × HeldPage) : Type 0 where
-  pub far_here : held_at new far.0 ≡ Some far.1
-  pub near_here : near.0 ≢ far.0 → held_at new near.0 ≡ Some near.1
-  pub others : (q : ℕ) → q ≢ near.0 → q ≢ far.0 → held_at new q ≡ held_at old q
+  pub between : HeldPages
+  pub near_set : Sets old between near.0 (Some near.1)
+  pub far_set : Sets between new far.0 (Some far.1)
 
 pub record Clears (first end : ℕ) (old new : HeldPages) : Type 0 where
   pub below : (q : ℕ) → q < first → held_at new q ≡ held_at old q

@@ -1,0 +1,10 @@
+use Rattle.space_cells.proofs.space.AddressSpace.hold_both.Goals as goal
+
+pub invariant_of-self : goal.invariant_of-self
+invariant_of-self c = ?
+
+pub returns-clause-ok : goal.returns-clause-ok
+returns-clause-ok c = ?
+
+pub returns-clause-err : goal.returns-clause-err
+returns-clause-err c = ?
