@@ -6,7 +6,7 @@
 use Rattle.std.proofs.Common.{◌≡◌, ◌≢◌, ℕ, ◌+◌, ◌-◌, ◌<◌, ◌≤◌, Bool, true, false, cond, List, refl, sym, ap, ◌∙◌, arith}
 use mathlib.Core.Bool.{true≢false}
 use mathlib.Core.Logic.{◌⊎◌, inl, inr}
-use Rattle.std.specs.Prelude.{Option, Some, None, IsSome, is_some}
+use Rattle.std.specs.Prelude.{Option, Some, None, IfSome, IfNone, IsSome, is_some, Result, Ok, Err, OnOk, OnErr}
 use Rattle.std.specs.Option.{option_map}
 use Rattle.std.specs.FinMap.{get}
 use Rattle.std.proofs.lemmas.Bool.{cases_eq, cases_lt}
@@ -29,7 +29,7 @@ use Rattle.space_cells.specs.declared.held.Number.TheVariants.{Frame, Slot}
 use Rattle.space_cells.specs.declared.held.HeldPage.{HeldPage}
 use Rattle.space_cells.specs.Held.{HeldPages, held_at, Clears, Sets}
 use Rattle.space_cells.specs.Cells.{HaveMarks, LetsGo, cell_of, cells_of, numbered, overwritten, overwritten_page, renumbered, renumbered_page, with_held, written_under}
-use Rattle.space_cells.proofs.Seen.{get_cells, none_unmarked, over, perm_of_cell}
+use Rattle.space_cells.proofs.Seen.{get_cells, over, perm_of_cell, same_cells}
 
 module _ (marks marks' : Marks) (pages pages' : HeldPages) where
   -- a range that changes, and pages that stay
@@ -139,12 +139,21 @@ module _ (marks : Marks) (pages pages' : HeldPages) (page : ℕ) where
           same_mark : {m n : Mark} → ◌≡◌ {A = Option Mark} (Some m) (Some n) → m ≡ n
           same_mark p = cc
 
-  -- what held nothing
-  pub nothing_let_go : Sets pages pages' page None → held_at pages page ≡ None → (q : ℕ) → held_at pages' q ≡ held_at pages q
+  -- a page that held nothing
+  nothing_let_go : Sets pages pages' page None → held_at pages page ≡ None → (q : ℕ) → held_at pages' q ≡ held_at pages q
   nothing_let_go sets none q = elim (cases_eq q page) [
     | inl same ↦ ap (held_at pages') same ∙ sets.here ∙ sym (ap (held_at pages) same ∙ none)
     | inr other ↦ sets.others q other
   ]
+
+  -- whatever was held
+  pub if_let_go : HaveMarks marks pages → Sets pages pages' page None → (r : Option HeldPage) → r ≡ held_at pages page → IfSome r (λ _. LetsGo page (cells_of marks pages) (cells_of marks pages'))
+  if_let_go have sets None e = tt
+  if_let_go have sets (Some held) e = let_go_cells have sets (sym (ap is_some e))
+
+  pub if_not_held : Sets pages pages' page None → (r : Option HeldPage) → r ≡ held_at pages page → IfNone r (cells_of marks pages' ≡ cells_of marks pages)
+  if_not_held sets None e = same_cells marks pages pages' (nothing_let_go sets (sym e))
+  if_not_held sets (Some held) e = tt
 
 module _ (marks : Marks) (pages pages' : HeldPages) (first count : ℕ) (clears : Clears first (first + count) pages pages') where
   outside_cleared : (q : ℕ) → within first count q ≡ false → held_at pages' q ≡ held_at pages q
@@ -232,3 +241,8 @@ module _ (marks : Marks) (pages : HeldPages) (first count : ℕ) (perm : Perm) w
       go true None = refl
       go true (Some mark) = refl
       go false o = refl
+
+-- what follows either way
+pub either : {T E A B C : Type 0} (r : Result T E) → OnOk r A → OnErr r B → (A → C) → (B → C) → C
+either (Ok x) a b f g = f a
+either (Err e) a b f g = g b

@@ -2,7 +2,7 @@
 use Rattle.std.proofs.Common.{◌≡◌, ℕ, ◌+◌, ◌-◌, ◌*◌, ◌^◌, ◌<◌, ◌≤◌, Bool, true, false, cond, refl, sym, ap, ◌∙◌, arith}
 use mathlib.Core.Bool.{true≢false}
 use mathlib.Core.Logic.{inl, inr}
-use Rattle.std.specs.Prelude.{Option, Some, None, IsSome, is_some, is_none, nat_eq}
+use Rattle.std.specs.Prelude.{Option, Some, None, IfSome, IfNone, IsSome, is_some, is_none, nat_eq}
 use Rattle.std.specs.Option.{option_map}
 use Rattle.std.specs.FinMap.{get}
 use Rattle.std.proofs.lemmas.Bool.{cases_lt}
@@ -16,8 +16,9 @@ use Rattle.plain_counts.specs.Fronts.{IsFull}
 use Rattle.plain_counts.proofs.Least.{earliest_is, earliest_none, least_is, least_none}
 use Rattle.plain_counts.proofs.Free.{free_range, taken_range}
 use Rattle.space_cells.specs.declared.held.Number.{Number}
+use Rattle.space_cells.specs.declared.held.HeldPage.{HeldPage}
 use Rattle.space_cells.specs.Held.{HeldPages, held_at, IsFirstHeld}
-use Rattle.space_cells.specs.Cells.{HaveMarks, cells_of, number_at}
+use Rattle.space_cells.specs.Cells.{HaveMarks, cells_of, numbered_page}
 use Rattle.space_cells.proofs.Seen.{number_seen, same_none, same_some}
 
 none_from : {A : Type 0} (o : Option A) → is_some o ≡ false → o ≡ None
@@ -60,23 +61,18 @@ module _ (marks : Marks) (pages : HeldPages) (first count : ℕ) where
           let at = least_passes first count (λ page. is_some (get marks page)) page e in
           taken_range (cells_of marks pages) first count page at.0 at.1 (same_some marks pages page ∙ at.2)
 
-module _ (marks : Marks) (pages : HeldPages) (have : HaveMarks marks pages) (first end : ℕ) where
-  -- the page, with its number
-  numbered_at : ℕ → Option Number → Option (ℕ × Number)
-  numbered_at page = option_map (λ number. (page, number))
+module _ (marks : Marks) (pages : HeldPages) (have : HaveMarks marks pages) (first end : ℕ) (low : first ≤ end) where
+  abbrev number : Option HeldPage → Option Number
+  number = option_map (λ held. held.number)
 
-  pub is_next_held : (page : ℕ) (number : Number) → IsFirstHeld pages first end page number →
-      Some (page, number) ≡ earliest first (end - first) (λ page. option_map (λ number. (page, number)) (number_at (cells_of marks pages) page))
-  unfolding numbered_at
-  is_next_held page number at = sym (earliest_is (λ page. numbered_at page (number_at (cells_of marks pages) page)) first (end - first) page (page, number) at.from (omega (arith, at.from, at.before))
-      (ap (numbered_at page) (number_seen marks pages have page ∙ at.there))
-      (λ q a b. ap (numbered_at q) (number_seen marks pages have q ∙ ap (option_map (λ held. held.number)) (at.least q a b))))
-
-  pub is_no_next_held : first ≤ end → ((q : ℕ) → first ≤ q → q < end → held_at pages q ≡ None) →
-      None ≡ earliest first (end - first) (λ page. option_map (λ number. (page, number)) (number_at (cells_of marks pages) page))
-  unfolding numbered_at
-  is_no_next_held low none = sym (earliest_none (λ page. numbered_at page (number_at (cells_of marks pages) page)) first (end - first)
-      (λ q a b. ap (numbered_at q) (number_seen marks pages have q ∙ ap (option_map (λ held. held.number)) (none q a (omega (arith, b, low))))))
+  -- the first held page of a range
+  pub is_next_held : (r : Option (ℕ × Number)) → IfSome r (λ e. IsFirstHeld pages first end e.0 e.1) → IfNone r ((q : ℕ) → first ≤ q → q < end → held_at pages q ≡ None) →
+      r ≡ earliest first (end - first) (numbered_page (cells_of marks pages))
+  is_next_held None some none = sym (earliest_none (numbered_page (cells_of marks pages)) first (end - first)
+      (λ q a b. ap (option_map (λ n. (q, n))) (number_seen marks pages have q ∙ ap number (none q a (omega (arith, b, low))))))
+  is_next_held (Some e) at none = sym (earliest_is (numbered_page (cells_of marks pages)) first (end - first) e.0 e at.from (omega (arith, at.from, at.before))
+      (ap (option_map (λ n. (e.0, n))) (number_seen marks pages have e.0 ∙ at.there))
+      (λ q a b. ap (option_map (λ n. (q, n))) (number_seen marks pages have q ∙ ap number (at.least q a b))))
 
 -- where `known` pages from the beginning of an arena on have cells
 module _ (cells : AddressSpace) (thread known first : ℕ) (is : first ≡ arena_first thread) (full : IsFull cells thread known) where

@@ -5,7 +5,8 @@
 use Rattle.std.proofs.Common.{◌≡◌, ℕ, Bool, true, false, cond, List, [], ◌∷◌, refl, sym, ap, ◌∙◌}
 use mathlib.Core.Bool.{true≢false}
 use Rattle.std.specs.Prelude.{Option, Some, None, IsSome, is_some, is_none, map, nat_eq}
-use Rattle.std.specs.Option.{option_map, option_and_then}
+use Rattle.std.specs.Option.{option_map, option_map_or, option_and_then}
+use Rattle.std.specs.List.{filter_map, range_with_len}
 use Rattle.std.specs.Ordering.{nat_cmp, is_eq}
 use Rattle.std.specs.Cmp.{nat_cmp_total, unsigned_tied}
 use Rattle.std.specs.FinMap.{find, entries, get, get-entries, get-from_entries, same_map, nat_cmp-IsAntisymmetric}
@@ -22,8 +23,8 @@ use Rattle.page_runs.specs.Spans.{Marks}
 use Rattle.space_cells.specs.declared.held.Number.{Number}
 use Rattle.space_cells.specs.declared.held.Number.TheVariants.{Frame, Slot}
 use Rattle.space_cells.specs.declared.held.HeldPage.{HeldPage}
-use Rattle.space_cells.specs.Held.{HeldPages, held_at}
-use Rattle.space_cells.specs.Cells.{HaveMarks, cell_of, cells_of, held_of, number_at, numbered}
+use Rattle.space_cells.specs.Held.{HeldPages, held_at, numbers_held}
+use Rattle.space_cells.specs.Cells.{HaveMarks, bytes_of, cell_of, cells_of, framed, held_of, number_at, numbered, numbers_in}
 
 find_mapped : {X Y : Type 0} (f : ℕ → X → Y) (q : ℕ) (es : List (ℕ × X)) → find nat_cmp q (map (λ e. (e.0, f e.0 e.1)) es) ≡ option_map (f q) (find nat_cmp q es)
 find_mapped f q [] = refl
@@ -49,6 +50,13 @@ get_cells marks pages q =
 
 pub cells_are : (marks : Marks) (pages : HeldPages) (m : AddressSpace) → ((q : ℕ) → get m q ≡ over (held_at pages q) (get marks q)) → cells_of marks pages ≡ m
 cells_are marks pages m h = same_map nat_cmp_total nat_cmp-IsAntisymmetric (cells_of marks pages) m (λ q. get_cells marks pages q ∙ sym (h q))
+
+-- pages that hold the same
+pub same_cells : (marks : Marks) (pages pages' : HeldPages) → ((q : ℕ) → held_at pages' q ≡ held_at pages q) → cells_of marks pages' ≡ cells_of marks pages
+same_cells marks pages pages' same = cells_are marks pages' (cells_of marks pages) (λ q. get_cells marks pages q ∙ ap (λ h. over h (get marks q)) (sym (same q)))
+
+pub same_have_marks : (marks : Marks) (pages pages' : HeldPages) → ((q : ℕ) → held_at pages' q ≡ held_at pages q) → HaveMarks marks pages → HaveMarks marks pages'
+same_have_marks marks pages pages' same have q some = have q (sym (ap is_some (same q)) ∙ some)
 
 perm_of_backed : (backing : Backing) (perm : Perm) → perm_of (backed backing perm 0) ≡ perm
 perm_of_backed backing.Zero perm = refl
@@ -109,3 +117,27 @@ module _ (marks : Marks) (pages : HeldPages) where
         go : (o : Option Cell) → option_and_then (λ cell. option_map (λ held. held.number) (held_of cell)) o ≡ option_map (λ held. held.number) (option_and_then held_of o)
         go None = refl
         go (Some cell) = refl
+
+    -- the numbers of the cells of a range
+    pub numbers_seen : (first count : ℕ) → numbers_held pages first count ≡ numbers_in (cells_of marks pages) first count
+    numbers_seen first count = λ i. filter_map (λ q. sym (number_seen q) i) (range_with_len first count)
+
+    -- the bytes of a page that has a frame
+    pub bytes_seen : (q : ℕ) → option_map_or (λ held. framed held.number held.bytes) (held_at pages q) [] ≡ bytes_of (get (cells_of marks pages) q)
+    bytes_seen q = go (get marks q) refl ∙ ap bytes_of (sym (get_cells marks pages q))
+      where
+        none : (what : Backing) (perm : Perm) → [] ≡ bytes_of (Some (backed what perm 0))
+        none backing.Zero perm = refl
+        none (backing.File file index) perm = refl
+
+        some : (perm : Perm) (number : Number) (bytes : List ℕ) → framed number bytes ≡ bytes_of (Some (numbered perm number bytes))
+        some perm (Frame frame) bytes = refl
+        some perm (Slot slot) bytes = refl
+
+        under : (mark : Mark) (o : Option HeldPage) → option_map_or (λ held. framed held.number held.bytes) o [] ≡ bytes_of (Some (cell_of mark o))
+        under mark None = none mark.backing mark.perm
+        under mark (Some held) = some mark.perm held.number held.bytes
+
+        go : (o : Option Mark) → get marks q ≡ o → option_map_or (λ held. framed held.number held.bytes) (held_at pages q) [] ≡ bytes_of (over (held_at pages q) o)
+        go None e = ap (λ o. option_map_or (λ held. framed held.number held.bytes) o []) (none_unmarked (get marks q) (held_at pages q) (have q) e)
+        go (Some mark) e = under mark (held_at pages q)

@@ -5,8 +5,10 @@
 --     HaveMarks      each held page lies over a mark
 --     held_of, number_of      the frame or slot of a cell with its bytes;  its number alone
 --     with_held      a cell that gets a frame or a slot
---     renumbered, overwritten      a cell under another number;  after bytes were written at a place in it, if it has a frame
+--     renumbered, overwritten      a cell under another number;  after bytes were written at a place in it, if it has a frame;  with .._page, the same of a held page
 --     bytes_of      the bytes of a page that has a frame, and none of another page
+--     framed      the same of a held page
+--     number_at, numbered_page      the number of the cell at a page;  with the page
 --     numbers_in      the numbers of the cells of a range, in the order of the pages
 --     LetsGo      a page loses its frame or slot, and is what it came from
 use Rattle.std.specs.Prelude.{◌≡◌, ℕ, List, [], map, Option, Some, None, IsSome}
@@ -86,8 +88,15 @@ bytes_of (Some (Anon perm)) = []
 bytes_of (Some (File perm file index)) = []
 bytes_of (Some (Swapped perm slot bytes)) = []
 
+abbrev pub framed : Number → List ℕ → List ℕ
+framed (Frame frame) bytes = bytes
+framed (Slot slot) bytes = []
+
 abbrev pub number_at : AddressSpace → ℕ → Option Number
 number_at cells page = option_and_then number_of (get cells page)
+
+abbrev pub numbered_page : AddressSpace → ℕ → Option (ℕ × Number)
+numbered_page cells page = option_map (λ number. (page, number)) (number_at cells page)
 
 abbrev pub numbers_in : AddressSpace → ℕ → ℕ → List Number
 numbers_in cells first count = filter_map (number_at cells) (range_with_len first count)

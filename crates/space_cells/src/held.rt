@@ -1,8 +1,7 @@
 //! Pages that have a frame or a swap slot, by page.
 ghost use Rattle.std.specs.Prelude.{◌≡◌, ℕ, ◌+◌, ◌-◌, ◌<◌, ◌≤◌, length, Some, None, IfOk, IfSome, IfNone, IsSome, OnOk, OnErr};
 ghost use Rattle.std.specs.Option.{option_map};
-ghost use Rattle.std.specs.BTreeMap.{IsUnchanged};
-ghost use Rattle.space_cells.specs.Cells.{overwritten_page, renumbered_page};
+ghost use Rattle.space_cells.specs.Cells.{framed, overwritten_page, renumbered_page};
 ghost use Rattle.space_cells.specs.Held.{held_at, numbers_held, Clears, IsFirstHeld, Sets, SetsBoth};
 
 use corten_base::PageBuf;
@@ -41,6 +40,16 @@ impl HeldPage {
         })
     }
 
+    /// The bytes of a page that has a frame, and none of one that has a slot.
+    pub(crate) fn frame_bytes(&self) -> &[u8]
+        ensures { result.now ≡ framed self.now.number self.now.bytes }
+    {
+        match self.number {
+            Number::Frame(_) => self.bytes.bytes(),
+            Number::Slot(_) => &[],
+        }
+    }
+
     /// Writes bytes over those of a page that has a frame, from a place on.
     fn write_at(&mut self, place: u32, bytes: &[u8])
         requires { place + length bytes.now ≤ 4096 }
@@ -74,7 +83,7 @@ pub(crate) fn put(
     ensures old { IfOk result (λ old. old ≡ held_at pages.old page) }
     ensures ok { OnOk result (Sets pages.old pages.new page (Some held)) }
     ensures absent { OnErr result (held_at pages.old page ≡ None) }
-    ensures err { OnErr result (IsUnchanged pages.old pages.new) }
+    ensures err { OnErr result ((q : ℕ) → held_at pages.new q ≡ held_at pages.old q) }
 {
     Ok(pages.insert(page, held)?)
 }
@@ -179,7 +188,7 @@ pub(crate) fn copy_all(alloc: Global, pages: &HeldPages) -> Result<HeldPages, Al
     ensures { IfOk result (λ copy. (q : ℕ) → held_at copy q ≡ held_at pages.now q) }
 {
     let mut copy = BTreeMap::new(alloc);
-    for (page, held) in pages {
+    for (page, held) in pages.iter() {
         copy.insert(*page, held.copy(alloc)?)?;
     }
     Ok(copy)

@@ -6,7 +6,7 @@ ghost use Rattle.page_map.specs.Cell.{status_of};
 ghost use Rattle.page_map.specs.Change.{earliest, least};
 ghost use Rattle.page_map.specs.Mapping.{arena_first, gap};
 ghost use Rattle.plain_counts.specs.Fronts.{IsFull};
-ghost use Rattle.space_cells.specs.Cells.{bytes_of, number_at};
+ghost use Rattle.space_cells.specs.Cells.{bytes_of, numbered_page};
 ghost use Rattle.space_cells.specs.Views.{seen};
 
 use crate::held::{HeldPage, HeldPages, Number, first_in};
@@ -108,11 +108,8 @@ impl AddressSpace {
         ensures { result.now ≡ bytes_of (map.get self.now page) }
     {
         match self.pages.get(&page) {
-            Some(HeldPage {
-                number: Number::Frame(_),
-                bytes,
-            }) => bytes.bytes(),
-            _ => &[],
+            Some(held) => held.frame_bytes(),
+            None => &[],
         }
     }
 
@@ -135,7 +132,7 @@ impl AddressSpace {
     /// The least page of a range that has a frame or a slot, with its number.
     pub fn next_held(&self, first: u64, end: u64) -> Option<(u64, Number)>
         requires { first ≤ end }
-        ensures { result ≡ earliest first (end - first) (λ page. option_map (λ number. (page, number)) (number_at self.now page)) }
+        ensures { result ≡ earliest first (end - first) (numbered_page self.now) }
     {
         first_in(&self.pages, first, end)
     }

@@ -1,4 +1,4 @@
-use Rattle.std.proofs.Common.{sym, ap, ◌++◌, ◌∙◌, arith}
+use Rattle.std.proofs.Common.{◌+◌, ◌-◌, ◌++◌, sym, ap, ◌∙◌, arith}
 use Rattle.space_cells.specs.Held.{numbers_held}
 use Rattle.space_cells.proofs.Walks.{first_number, no_numbers}
 use Rattle.space_cells.proofs.held.numbers.Goals as goal
