@@ -61,8 +61,8 @@ only_one [] row one others = let none = times-nil row in absurd (omega arith)
 only_one (x ∷ xs) row one others = dite (ℕ_discrete x row)
     (λ e. let here = times-cons_same row x xs e in
     (λ j. e j ∷ none_there xs (λ q. dite (ℕ_discrete q row)
-        (λ same. let is = ap (λ (n : ℕ). times n xs) same in omega arith)
-        (λ ne. let zero = others q ne in let skip = times-cons_other q x xs (λ z. ne (sym z ∙ e)) in omega arith)) j))
+    (λ same. let is = ap (λ (n : ℕ). times n xs) same in omega arith)
+    (λ ne. let zero = others q ne in let skip = times-cons_other q x xs (λ z. ne (sym z ∙ e)) in omega arith)) j))
     (λ ne. let zero = others x ne in let here = times-cons_same x x xs refl in absurd (omega arith))
 
 -- the rows of those that a test leaves
@@ -82,7 +82,7 @@ has_kept : (keep : PutRow → Bool) (lo : List PutRow) (k : PutRow) → Contains
 has_kept keep [] k i is = let none = i.1 in absurd (omega arith)
 has_kept keep (y ∷ lo) k i is = ⊎_elim
     (λ (e : y ≡ k). subst (λ (b : Bool). Has (put_rows (cond b (y ∷ filter keep lo) (filter keep lo))) k.row) (sym (ap keep e ∙ is))
-        (let one = times-cons_same k.row y.row (put_rows (filter keep lo)) (ap (λ (z : PutRow). z.row) e) in omega arith))
+    (let one = times-cons_same k.row y.row (put_rows (filter keep lo)) (ap (λ (z : PutRow). z.row) e) in omega arith))
     (λ (later : Contains lo k). go (keep y) (has_kept keep lo k later is))
     (head_or_later y lo k i)
   where
@@ -97,10 +97,10 @@ gone_one : (keep : PutRow → Bool) (lo : List PutRow) (k : PutRow) → Contains
 gone_one keep [] k i out once = times-nil k.row
 gone_one keep (y ∷ lo) k i out once = ⊎_elim
     (λ (e : y ≡ k). subst (λ (b : Bool). times k.row (put_rows (cond b (y ∷ filter keep lo) (filter keep lo))) ≡ 0) (sym (ap keep e ∙ out))
-        (let one = times-cons_same k.row y.row (put_rows lo) (ap (λ (z : PutRow). z.row) e) in let less = rows_le keep lo k.row in omega arith))
+    (let one = times-cons_same k.row y.row (put_rows lo) (ap (λ (z : PutRow). z.row) e) in let less = rows_le keep lo k.row in omega arith))
     (λ (later : Contains lo k). let has : Has (put_rows lo) k.row = has_part (λ (z : PutRow). z.row) lo k later in dite (ℕ_discrete y.row k.row)
-        (λ e. let one = times-cons_same k.row y.row (put_rows lo) e in absurd (omega arith))
-        (λ ne. let same = times-cons_other k.row y.row (put_rows lo) ne in go (keep y) ne (gone_one keep lo k later out (omega arith))))
+    (λ e. let one = times-cons_same k.row y.row (put_rows lo) e in absurd (omega arith))
+    (λ ne. let same = times-cons_other k.row y.row (put_rows lo) ne in go (keep y) ne (gone_one keep lo k later out (omega arith))))
     (head_or_later y lo k i)
   where
     go : (b : Bool) → y.row ≢ k.row → times k.row (put_rows (filter keep lo)) ≡ 0 → times k.row (put_rows (cond b (y ∷ filter keep lo) (filter keep lo))) ≡ 0
@@ -131,7 +131,7 @@ module _ {R B E : Type 0} (M : Meaning R B E) (old new : B) (keep : PutRow → B
       go true is = among_true (put_rows (M.limbo new)) k.row (let has = has_kept keep (M.limbo old) k i is in let e = all in omega arith)
       go false is = among_false (put_rows (M.limbo new)) k.row
           (let o = once k.row in let gone = gone_one keep (M.limbo old) k i is (omega arith) in let e = all in let h = here in
-              let none : times k.row (put_rows put) ≡ 0 = dite (ℕ_discrete (times k.row (put_rows put)) 0) (λ z. z) (λ nz. let f = fresh k.row (omega arith) in absurd (omega arith)) in omega arith)
+          let none : times k.row (put_rows put) ≡ 0 = dite (ℕ_discrete (times k.row (put_rows put)) 0) (λ z. z) (λ nz. let f = fresh k.row (omega arith) in absurd (omega arith)) in omega arith)
 
   pub swept_is : swept_rows M old new ≡ put_rows dropped
   swept_is = sym (map_filter (λ (k : PutRow). k.row) (λ x. not (among (put_rows (M.limbo new)) x)) (M.limbo old))
@@ -169,8 +169,8 @@ module _ {R B E : Type 0} (M : Meaning R B E) (old new : B) (keep : PutRow → B
     pub free_is : (p : ℕ) → SameRows (free_after (give_of M p old new) (M.free old)) (M.free new)
     free_is p q = dite (ℕ_discrete (times q (M.free new)) 0)
         (λ z. let taken = times_minus_other (M.free new) (M.free old ++ swept_rows M old new) q z in dite (ℕ_discrete (times q (taken_rows M old new)) 0)
-            (λ none. let same = times_minus_other (taken_rows M old new) (M.free old ++ swept_rows M old new) q none in omega arith)
-            (λ some_there. let zero = times_minus_same (taken_rows M old new) (M.free old ++ swept_rows M old new) q (omega arith) in omega arith))
+        (λ none. let same = times_minus_other (taken_rows M old new) (M.free old ++ swept_rows M old new) q none in omega arith)
+        (λ some_there. let zero = times_minus_same (taken_rows M old new) (M.free old ++ swept_rows M old new) q (omega arith) in omega arith))
         (λ nz. let taken = times_minus_same (M.free new) (M.free old ++ swept_rows M old new) q (omega arith) in
         let same = times_minus_other (taken_rows M old new) (M.free old ++ swept_rows M old new) q taken in
         let has = from q (omega arith) in let most = all_once q in let new_most = free_once q in omega arith)
@@ -199,5 +199,5 @@ module _ {R B E : Type 0} (M : Meaning R B E) (old new : B) (keep : PutRow → B
     taken_one row has gone others = only_one (taken_rows M old new) row
         (let same = times_minus_other (M.free new) (M.free old ++ swept_rows M old new) row gone in let all = times-append row (M.free old) (swept_rows M old new) in let most = all_once row in omega arith)
         (λ q ne. dite (ℕ_discrete (times q (M.free old ++ swept_rows M old new)) 0)
-            (λ z. let less = minus_le (M.free new) (M.free old ++ swept_rows M old new) q in omega arith)
-            (λ nz. times_minus_same (M.free new) (M.free old ++ swept_rows M old new) q (others q ne (omega arith))))
+        (λ z. let less = minus_le (M.free new) (M.free old ++ swept_rows M old new) q in omega arith)
+        (λ nz. times_minus_same (M.free new) (M.free old ++ swept_rows M old new) q (others q ne (omega arith))))

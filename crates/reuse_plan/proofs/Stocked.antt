@@ -106,9 +106,9 @@ pub one_from : (s t : Numbers) (row q : ℕ) → 2 ≤ row → t ≡ set.insert 
 one_from s t row q low e old = ap (λ (n : Numbers). set.contains n q) e ∙ (inserted s row q ∙ (ap (λ b. eqb q row || b) (old q) ∙ dite (ℕ_discrete q row)
     (λ same. ap (λ b. b || (leb 2 q && ltb q row)) (eq-eqb q row same) ∙ sym (and_from (leb 2 q) (ltb q (row + 1)) (le-leb 2 q (omega arith)) (lt-ltb q (row + 1) (omega arith))))
     (λ ne. ap (λ b. b || (leb 2 q && ltb q row)) (ne_eqb q row ne) ∙ ap (λ b. leb 2 q && b) (⊎_elim
-        (λ (less : q < row). lt-ltb q row less ∙ sym (lt-ltb q (row + 1) (omega arith)))
-        (λ past. le-ltb q row past ∙ sym (le-ltb q (row + 1) (omega arith)))
-        (cases_lt q row)))))
+    (λ (less : q < row). lt-ltb q row less ∙ sym (lt-ltb q (row + 1) (omega arith)))
+    (λ past. le-ltb q row past ∙ sym (le-ltb q (row + 1) (omega arith)))
+    (cases_lt q row)))))
 
 pub not_from : (row : ℕ) → (leb 2 row && ltb row row) ≡ false
 not_from row = go (leb 2 row)
