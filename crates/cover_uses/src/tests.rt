@@ -6,6 +6,7 @@ ghost use Rattle.tree_lock.specs.Tries.{IsFree};
 
 use row_table::{Iron, Layout, Pass};
 use row_uses::sowing::{Field, Seeds, Unsown, sow};
+use row_uses::uses::{Visit, go_down, touch};
 use std::alloc::{AllocError, Global};
 use std::test::Fail;
 use table_place::{Place, an_entry_leads_to_a_child};
@@ -313,6 +314,38 @@ fn at_level_one(
     let page = attempt(&iron, &mut pass, &mut held, &pages(&iron, FIFTH, 1, false));
     let space = attempt(&iron, &mut pass, &mut held, &Zone::Space { space: 0 });
     Ok(Some((page, space)))
+}
+
+// Goes down from row 0 to the table of level 1 by looks alone, and has its row for a moment.
+fn look_to_level_one(iron: &Iron<Field>, pass: &mut Pass<Field>) -> Visit
+    requires table { IsPassOf iron.now pass.old }
+    requires idle { IsIdle (view_of pass.old) }
+{
+    let Ok(()) = pass.enter(iron) else {
+        return Visit::Worn;
+    };
+    let root = go_down(iron, pass, 0, 0);
+    let fourth = go_down(iron, pass, root, 0);
+    let third = go_down(iron, pass, fourth, 5);
+    let second = go_down(iron, pass, third, 0);
+    let first = go_down(iron, pass, second, 0);
+    touch(iron, pass, first)
+}
+
+// The same after four tables were linked there.
+fn looked_to_level_one(alloc: Global) -> Result<Option<Visit>, AllocError> {
+    let (iron, mut first, mut second) = made(alloc, 7, 5)?;
+    let mut held = Held::new(alloc, 7)?;
+    if !grow(&iron, &mut first, &mut held, FIFTH, 4) {
+        return Ok(None);
+    }
+    Ok(Some(look_to_level_one(&iron, &mut second)))
+}
+
+#[test]
+fn a_table_of_five_levels_is_looked_down_to_level_one(rt: HostRuntime) -> Result<(), Fail> {
+    assert_eq!(rt; looked_to_level_one(rt.alloc())?, Some(Visit::Got(3)));
+    Ok(())
 }
 
 #[test]

@@ -1,3 +1,4 @@
 pub mod Loaded
 pub mod Swept
 pub mod Stocked
+pub mod Gives

@@ -1,9 +1,8 @@
 pub mod Tally
-pub mod Stock
-pub mod Grafts
+pub mod Lists
 pub mod Visits
 pub mod Closings
 pub mod SownPlaces
 pub mod SownSteps
-pub mod SownRoot
+pub mod Starts
 pub mod SownPair

@@ -3,7 +3,6 @@
 --     sown, lawful      the plan and its laws
 --     View, HoldsAlone      what a pass knows, and one that holds this row and has nothing else
 --     MaySow      a new row may be linked at an entry of the only row that the pass holds, at this position
---     bed, next_bed, HasRoot, HasBeds      the positions below entries 5 and 6 of the root of space 0, and what a pass has that may sow there
 --     SameSeeds, Draws      a book that is as it was, and one from which a row and a generation were taken and that lists one position more
 --     IsLacking      what a book lacks for so many rows
 --     KeepsRow, IsSown      the pass still holds the row, and a new row is linked
@@ -85,25 +84,6 @@ pub record MaySow (v : View) (row index : ℕ) (place : Place) : Type 0 where
   pub no_link : is_link (slice_index known.words index) ≡ false
   pub below : place ≡ entry_place v.layout.levels known.place index
   pub is_place : is_place v.layout.levels place ≡ true
-
-abbrev pub bed : Place
-bed = record { space = 0; level = 3; prefix = 5 }
-
-abbrev pub next_bed : Place
-next_bed = record { space = 0; level = 3; prefix = 6 }
-
--- With four levels: it holds row 1 alone, is outside, may sow at the entry 5, and may give the row back with this content.
-pub record HasRoot (v : View) (content : Bool) : Type 0 where
-  pub four : v.layout.levels ≡ 4
-  pub may : MaySow v 1 5 bed
-  pub place : may.known.place ≡ entry_place v.layout.levels directory 0
-  pub fits : Fits sown v 1 content
-  pub outside : v.core.stand ≡ None
-
--- and the entry 6 is no link
-pub record HasBeds (v : View) (content : Bool) : Type 0 where
-  pub root : HasRoot v content
-  pub next_free : is_link (slice_index root.may.known.words 6) ≡ false
 
 -- What it does
 

@@ -17,3 +17,4 @@ pub mod LinkedTree
 pub mod LinkedCover
 pub mod LinkedTops
 pub mod LinkedPasses
+pub mod Carried

@@ -9,15 +9,20 @@
 --     ShownAreHeld      a pass whose view tells that it covers a zone holds the rows of the cover and no others
 --     ListsAreCovers      a list of all rows that a pass holds, whose view tells that it covers a zone, has the rows of the cover
 --     CoversAreApart      the covers that two passes hold are of zones without a common page
-use Rattle.std.specs.Prelude.{◌≡◌, ◌≢◌, ℕ, zero, suc, ◌<◌, ◌≤◌, ◌⊎◌, ◌↔◌, true, false, List, slice_index}
+--     cover_part, CoverStays      what a cover says of a row;  rows with the same parts are covers of the same zones
+--     GivenStays      so are the rows of a pass once it gave the book
+use Rattle.std.specs.Prelude.{◌≡◌, ◌≢◌, ℕ, zero, suc, ◌<◌, ◌≤◌, ◌⊎◌, ◌↔◌, true, false, List, map, slice_index}
 use Rattle.std.specs.List.{Contains}
+use Rattle.table_place.specs.declared.Place.{Place}
 use Rattle.walk_core.specs.Words.{entry_at, is_link, link_row}
 use Rattle.walk_core.specs.Lists.{Has}
 use Rattle.row_table.specs.declared.view.PassView.{PassView}
+use Rattle.row_table.specs.declared.view.HeldRow.{HeldRow as KnownRow}
 use Rattle.row_table.specs.Rows.{place_at}
 use Rattle.row_layout.specs.declared.places.Layout.{Layout}
 use Rattle.row_table.specs.Rule.{Table}
 use Rattle.row_table.specs.Close.{IsReached}
+use Rattle.row_table.specs.Books.{given}
 use Rattle.tree_lock.specs.declared.zone.Zone.{Zone}
 use Rattle.tree_lock.specs.declared.zone.Zone.TheVariants.{Pages, Space, Directory}
 use Rattle.tree_lock.specs.declared.held.HeldRow.{HeldRow}
@@ -80,3 +85,13 @@ module _ {R B E : Type 0} (k : Layout) where
   abbrev pub CoversAreApart : Table R B E → Type 0
   CoversAreApart s = (one other : List (PassView R B E)) → Contains s.views one → Contains s.views other → (u v : PassView R B E) → Contains one u → Contains other v → u.number ≢ v.number
       → (y z : Zone) → HoldsCover y s.words u → HoldsCover z s.words v → (space page : ℕ) → ZoneHas y space page → ¬ ZoneHas z space page
+
+-- its number, its position and its entry words
+abbrev pub cover_part : {R : Type 0} → KnownRow R → ℕ × Place × List ℕ
+cover_part h = (h.row, h.place, h.words)
+
+abbrev pub CoverStays : (R : Type 0) → Type 0
+CoverStays R = (levels count : ℕ) (zone : Zone) (old new : List (KnownRow R)) → map cover_part new ≡ map cover_part old → CoversZone levels count zone old → CoversZone levels count zone new
+
+abbrev pub GivenStays : (R : Type 0) → Type 0
+GivenStays R = (levels count : ℕ) (zone : Zone) (rows : List (KnownRow R)) → CoversZone levels count zone rows → CoversZone levels count zone (map given rows)

@@ -5,7 +5,7 @@ ghost use Rattle.row_table.specs.Rule.{Table, Holds};
 ghost use Rattle.tree_lock.specs.declared.zone.Zone.{Zone};
 ghost use Rattle.tree_lock.specs.declared.zone.Zone.TheVariants.{Pages};
 ghost use Rattle.tree_lock.specs.Zone.{ZoneHas, IsZone};
-ghost use Rattle.tree_lock.specs.Linked.{IsInCover, HasOneTop, IsAbsent, ShownAreHeld, ListsAreCovers, CoversAreApart};
+ghost use Rattle.tree_lock.specs.Linked.{IsInCover, HasOneTop, IsAbsent, ShownAreHeld, ListsAreCovers, CoversAreApart, CoverStays, GivenStays};
 
 use row_table::Plan;
 
@@ -35,4 +35,11 @@ pub fn the_list_of_a_cover_has_its_rows<P: Plan>()
 /// Wherever the rule holds, no two passes hold covers of zones that share a page of one space.
 pub fn two_passes_cover_no_common_page<P: Plan>()
     ensures { (k : Layout) (first : P.Book) (s : Table P.Row P.Book P.Entry) → Holds P.meaning k first s → CoversAreApart k s }
+{}
+
+/// Rows with the same numbers, positions and entry words are covers of the same zones. So a cover stays over each call that leaves
+/// these of the held rows. A turn, a sample and a wait leave the rows as they are; what a give changes of them is none of these.
+pub fn a_cover_stays_with_its_rows<P: Plan>()
+    ensures stays { CoverStays P.Row }
+    ensures given { GivenStays P.Row }
 {}

@@ -14,9 +14,9 @@ mod zone;
 
 pub use attempt::{Tried, try_cover};
 pub use cover_laws::{
-    a_pass_that_covers_a_zone_holds_its_cover, a_zone_of_pages_has_one_top,
-    an_absent_space_is_covered_by_row_0, the_list_of_a_cover_has_its_rows,
-    two_passes_cover_no_common_page,
+    a_cover_stays_with_its_rows, a_pass_that_covers_a_zone_holds_its_cover,
+    a_zone_of_pages_has_one_top, an_absent_space_is_covered_by_row_0,
+    the_list_of_a_cover_has_its_rows, two_passes_cover_no_common_page,
 };
 pub use held::{Held, HeldRow};
 pub use order::{

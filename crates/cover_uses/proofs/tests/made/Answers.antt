@@ -1,6 +1,6 @@
 use Rattle.std.proofs.Common.{false, [], ◌∷◌, length, length-append, ap, arith}
-use Rattle.row_uses.proofs.Stock.{range_more}
-use Rattle.row_uses.proofs.SownRoot.{false_none, false_more}
+use Rattle.row_uses.proofs.Lists.{range_more}
+use Rattle.row_uses.proofs.Starts.{false_none, false_more}
 use Rattle.cover_uses.proofs.tests.made.Goals as goal
 
 pub loop-init : goal.loop-init

@@ -1,6 +1,6 @@
 use Rattle.std.proofs.Common.{◌≡◌, ◌-◌, length}
 use Rattle.std.specs.List.{range_with_len}
-use Rattle.row_uses.proofs.SownRoot.{AreFalse}
+use Rattle.row_uses.proofs.Starts.{AreFalse}
 use Rattle.cover_uses.proofs.tests.made.Given as goal
 
 abbrev pub invariant-loop : goal.invariant-loop

@@ -1,68 +1,38 @@
--- A small plan for tests: a book of free rows, rows in limbo and the next generation, and rows that hold 0 where they are blank or their entry 5 is 0; and what a pass has that holds row 1.
---     Stock, stock, lawful      the book, the plan and its laws
---     View, HasRoot      what a pass knows that holds row 1, in whose entry 5 this word stands
+-- What a pass has that holds row 1.
+--     View, HasRoot      what it knows, where this word stands in the row's entry 5
 --     HasGrant      it was granted a row, and may set it up with this generation
 --     HasGraft      it holds a row too that the entry links, and the row has no entries
-use Rattle.std.specs.Prelude.{◌≡◌, ◌≢◌, ℕ, ◌^◌, ◌<◌, ◌≤◌, ⊤, Bool, true, false, List, [], ◌∷◌, length, slice_index, None, Some}
-use Rattle.std.specs.Global.{Vec}
+use Rattle.std.specs.Prelude.{◌≡◌, ◌≢◌, ℕ, ◌^◌, ◌<◌, ◌≤◌, Bool, true, false, List, [], ◌∷◌, length, slice_index, None, Some}
 use Rattle.std.specs.List.{Contains}
 use Rattle.table_place.specs.Place.{directory, entry_place}
-use Rattle.walk_core.specs.declared.lists.PutRow.{PutRow}
 use Rattle.walk_core.specs.declared.pass.GrantedRow.{GrantedRow}
-use Rattle.walk_core.specs.declared.pass.UnlinkedRow.{UnlinkedRow}
 use Rattle.walk_core.specs.Words.{is_link, link_row}
+use Rattle.walk_core.specs.Core.{unlinked_rows}
 use Rattle.walk_core.specs.Events.{newly_granted}
+use Rattle.row_cells.specs.declared.Cell.{Cell}
 use Rattle.row_table.specs.declared.view.PassView.{PassView}
 use Rattle.row_table.specs.declared.view.HeldRow.{HeldRow}
 use Rattle.row_table.specs.declared.view.HandRow.{HandRow}
-use Rattle.row_table.specs.Plan.{Meaning, IsLawful, HasGrown}
 use Rattle.row_table.specs.Vacant.{blank_words}
-
-abbrev pub Stock : Type 0
-Stock = Vec ℕ × Vec PutRow × ℕ
-
-abbrev pub stock : Meaning ℕ Stock (Unit {0})
-stock = record {
-  journal = λ _. [];
-  thread = λ _. 0;
-  free = λ b. b.0.items;
-  limbo = λ b. b.1.items;
-  next_generation = λ b. b.2;
-  agrees = λ _ _ words x. slice_index words 5 ≡ 0 → x ≡ 0;
-  is_blank = λ x. x ≡ 0;
-  may_follow = λ _ a b. (a.2 ≤ b.2) × HasGrown {E = Unit {0}} [] [];
-  same_fixed = λ _ _. ⊤;
-  shows_limbo = λ _. false;
-}
-
-pub lawful : IsLawful stock
-lawful = record {
-  keeps_agreement = λ _ _ _ _ _ _ _ _ a. a;
-  grows = λ _ _ _ f. f.1;
-  rises = λ _ _ _ f. f.0;
-  keeps_fixed = λ _ _ _ _. tt;
-  fixed_same = λ _. tt;
-  fixed_back = λ _ _ _. tt;
-  fixed_on = λ _ _ _ _ _. tt;
-}
+use Rattle.reuse_plan.specs.Stock.{StockData}
 
 abbrev pub View : Type 0
-View = PassView ℕ Stock (Unit {0})
+View = PassView (List Cell) StockData (Unit {0})
 
--- With four levels: it holds these rows, among them row 1 with this word in its entry 5, is outside without the book, and has these rows in its hand. Whether it has given the book since it grabbed row 1 is known.
-pub record HasRoot (v : View) (word : ℕ) (rows : List ℕ) (gs : List GrantedRow) (us : List UnlinkedRow) (given : Bool) : Type 0 where
+-- With four levels: it holds these rows, among them row 1 with this word in its entry 5, is outside without the book, has these rows in its hand, and unlinked these. Whether it has given the book since it grabbed row 1 is known.
+pub record HasRoot (v : View) (word : ℕ) (rows : List ℕ) (gs : List GrantedRow) (us : List ℕ) (given : Bool) : Type 0 where
   pub four : v.layout.levels ≡ 4
-  pub row_one : HeldRow ℕ
+  pub row_one : HeldRow (List Cell)
   pub there : Contains v.rows row_one
   pub number : row_one.row ≡ 1
   pub place : row_one.place ≡ entry_place v.layout.levels directory 0
   pub word_five : slice_index row_one.words 5 ≡ word
   pub is_given : row_one.is_given ≡ given
-  pub last : given ≡ true → (b : Stock) × (v.last ≡ Some b)
+  pub last : given ≡ true → (b : StockData) × (v.last ≡ Some b)
   pub held : v.core.held ≡ rows
   pub outside : v.core.stand ≡ None
   pub granted : v.core.granted ≡ gs
-  pub unlinked : v.core.unlinked ≡ us
+  pub unlinked : unlinked_rows v.core ≡ us
   pub has_not : v.core.has_book ≡ false
 
 pub record HasGrant (v : View) (row generation : ℕ) : Type 0 where
@@ -80,7 +50,7 @@ pub record HasGrant (v : View) (row generation : ℕ) : Type 0 where
 
 pub record HasGraft (v : View) (row : ℕ) : Type 0 where
   pub four : v.layout.levels ≡ 4
-  pub linker : HeldRow ℕ
+  pub linker : HeldRow (List Cell)
   pub there : Contains v.rows linker
   pub number : linker.row ≡ 1
   pub place : linker.place ≡ entry_place v.layout.levels directory 0
@@ -88,14 +58,14 @@ pub record HasGraft (v : View) (row : ℕ) : Type 0 where
   pub link : is_link (slice_index linker.words 5) ≡ true
   pub to_row : link_row (slice_index linker.words 5) ≡ row
   pub is_given : linker.is_given ≡ true
-  pub child : HeldRow ℕ
+  pub child : HeldRow (List Cell)
   pub child_there : Contains v.rows child
   pub child_row : child.row ≡ row
   pub child_words : child.words ≡ blank_words
   pub granted : v.core.granted ≡ []
-  pub unlinked : v.core.unlinked ≡ []
+  pub unlinked : unlinked_rows v.core ≡ []
   pub held : v.core.held ≡ 1 ∷ row ∷ []
-  pub last : (b : Stock) × (v.last ≡ Some b)
+  pub last : (b : StockData) × (v.last ≡ Some b)
   pub outside : v.core.stand ≡ None
   pub has_not : v.core.has_book ≡ false
   pub other : row ≢ 1
