@@ -1,0 +1,5 @@
+pub mod Seen
+pub mod Changing
+pub mod Walks
+pub mod Leasts
+pub mod Released
