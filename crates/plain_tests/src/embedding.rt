@@ -6,15 +6,14 @@ use mm_model::{Plain, StepFault};
 use std::alloc::{AllocError, Global};
 use std::test::Fail;
 
-const LIMITS: Limits = Limits {
-    frames: 2,
-    tables: 8,
-    swap: 1,
-};
-
 /// Maps a page where there is room, stores two bytes there, and loads three.
 fn store_and_load(alloc: Global, space: SpaceId, perm: Perm) -> Result<Reply, StepFault> {
-    let mut plain = Plain::new(alloc, LIMITS, Shelf::new(alloc))?;
+    let limits = Limits {
+        frames: 2,
+        tables: 8,
+        swap: 1,
+    };
+    let mut plain = Plain::new(alloc, limits, Shelf::new(alloc))?;
     let map = Call::Map {
         space,
         place: MapPlace::Any,
