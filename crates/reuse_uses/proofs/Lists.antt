@@ -1,7 +1,7 @@
 -- What a give may do after a row was taken, put into limbo, or swept.
-use Rattle.std.proofs.Common.{◌≡◌, ◌≢◌, ℕ, ◌+◌, ◌<◌, ◌≤◌, ◌%◌, ◌==◌, ◌&&◌, cond, not, Bool, true, false, List, [], ◌∷◌, ◌++◌, map, length, ◌⊎◌, inl, inr, sym, refl, ap, ◌∙◌, subst, ⊎_elim, arith, append-nil}
+use Rattle.std.proofs.Common.{◌≡◌, ℕ, ◌+◌, ◌<◌, ◌≤◌, not, Bool, true, false, List, [], ◌∷◌, ◌++◌, map, length, ◌⊎◌, inl, inr, sym, refl, ap, ◌∙◌, subst, ⊎_elim, arith, append-nil}
 use Rattle.std.specs.Prelude.{◌||◌}
-use Rattle.std.specs.List.{All, Contains, filter, AllByRecursion}
+use Rattle.std.specs.List.{All, filter}
 use Rattle.std.specs.FinSet as set
 use Rattle.std.proofs.lemmas.List.{map-append}
 use Rattle.std.proofs.lemmas.List.Elements.{All-head, All-tail, All-nil, All-cons, All-same, All-map, All-filter}
@@ -9,7 +9,7 @@ use mathlib.Core.Logic.{dite}
 use native.Mathlib.Decide.{ℕ_discrete}
 use Rattle.walk_core.specs.declared.lists.PutRow.{PutRow}
 use Rattle.walk_core.specs.Lists.{times, Has, among}
-use Rattle.walk_core.specs.Guards.{put_rows, IsMarked, IsSampled, IsUnread, MayPut}
+use Rattle.walk_core.specs.Guards.{put_rows, IsMarked, IsSampled, IsUnread}
 use Rattle.walk_core.proofs.RowLists.{times-nil, times-append, times-cons_same, times-cons_other, times_one_same, times_one_other, among_has}
 use Rattle.row_layout.specs.declared.places.Layout.{Layout}
 use Rattle.free_numbers.specs.Numbers.{NumbersBelow}

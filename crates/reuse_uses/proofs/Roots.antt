@@ -1,5 +1,5 @@
 -- What a pass has after each of its calls.
-use Rattle.std.proofs.Common.{◌≡◌, ◌≢◌, ℕ, ◌+◌, ◌*◌, ◌^◌, ◌<◌, ◌≤◌, eqb, cond, not, Bool, true, false, List, [], ◌∷◌, ◌++◌, map, length, get_or, set, inr, sym, refl, ap, ◌∙◌, subst, ⊎_elim, arith, eq-eqb, ne_eqb, get_or-set_same, length-set, Some, None}
+use Rattle.std.proofs.Common.{◌≡◌, ◌≢◌, ℕ, ◌+◌, ◌*◌, ◌^◌, ◌<◌, eqb, cond, not, Bool, true, false, List, [], ◌∷◌, ◌++◌, map, length, get_or, set, inr, sym, refl, ap, ◌∙◌, subst, ⊎_elim, arith, eq-eqb, ne_eqb, get_or-set_same, length-set, Some, None}
 use Rattle.std.specs.List.{Contains, filter}
 use Rattle.std.proofs.lemmas.List.{map-append}
 use Rattle.std.proofs.lemmas.List.Elements.{Contains-append_left, Contains-append_right}
@@ -12,9 +12,9 @@ use Rattle.walk_core.specs.declared.pass.UnlinkedRow.{UnlinkedRow}
 use Rattle.walk_core.specs.Words.{is_link, link_row, link_generation, link_word}
 use Rattle.walk_core.specs.Lists.{times, Has, without, among, minus}
 use Rattle.walk_core.specs.Core.{unlinked_rows}
-use Rattle.walk_core.specs.Events.{top, newly_granted, newly_unlinked, granted_after_part, granted_after_entry, unlinked_after_give, stand_after_look}
+use Rattle.walk_core.specs.Events.{top, newly_granted, newly_unlinked, granted_after_part, granted_after_entry, stand_after_look}
 use Rattle.walk_core.specs.Guards.{StandsOn, put_rows, IsMarked, IsSampled, IsUnread}
-use Rattle.walk_core.proofs.RowLists.{times-nil, times-cons_other, times-append, times_one_same, times_one_other, among_true, head_or_later, in_head, in_tail, in_map}
+use Rattle.walk_core.proofs.RowLists.{times-nil, times-cons_other, times-append, times_one_same, times_one_other, head_or_later, in_head, in_tail, in_map}
 use Rattle.walk_core.proofs.Spellings.{link_word_is, link_row-link_word, link_generation-link_word, is_link-link_word, zero_no_link}
 use Rattle.row_layout.specs.declared.places.Layout.{Layout}
 use Rattle.row_table.specs.declared.view.HeldRow.{HeldRow}
@@ -32,8 +32,8 @@ use Rattle.row_cells.specs.Cells.{blank}
 use Rattle.row_layout.specs.declared.limbo.Sampled.{Sampled}
 use Rattle.epoch_grace.specs.Sweeping.{Sweeps}
 use Rattle.epoch_grace.specs.Loads.{Loads}
-use Rattle.epoch_grace.proofs.Loaded.{SameButSamples, loaded_same}
-use Rattle.epoch_grace.proofs.Gives.{map_filter, minus_none, filter_all}
+use Rattle.epoch_grace.proofs.Loaded.{loaded_same}
+use Rattle.epoch_grace.proofs.Gives.{map_filter, minus_none}
 use Rattle.reuse_plan.specs.Stock.{StockData, put_of, store, IsStocked, Draws, deposited}
 use Rattle.reuse_uses.specs.Kept.{View, HasRoot, HasGrant, HasGraft}
 use Rattle.reuse_uses.proofs.Lists.{IsOnce, draw_put, draw_taken, put_put, put_taken, sweep_put, sweep_taken}

@@ -1,4 +1,4 @@
-use Rattle.std.proofs.Common.{◌+◌, ap, ◌∙◌, arith}
+use Rattle.std.proofs.Common.{ap, ◌∙◌, arith}
 use Rattle.row_table.specs.Passes.{view_of, layout_of}
 use Rattle.reuse_uses.specs.Kept.{View}
 use Rattle.reuse_uses.proofs.Lists.{may_draw}

@@ -1,4 +1,4 @@
-use Rattle.std.proofs.Common.{◌≡◌, ◌≢◌, ◌+◌, ◌≤◌, true, [], ◌∷◌, sym, ap, ◌∙◌, subst, arith}
+use Rattle.std.proofs.Common.{◌≡◌, true, [], ◌∷◌, sym, ap, ◌∙◌, subst, arith}
 use Rattle.walk_core.specs.Guards.{IsMarked}
 use Rattle.row_layout.specs.declared.limbo.Sampled.{Sampled}
 use Rattle.row_table.specs.Passes.{view_of, layout_of}

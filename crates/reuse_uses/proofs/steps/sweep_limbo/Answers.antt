@@ -1,4 +1,4 @@
-use Rattle.std.proofs.Common.{◌≡◌, ◌+◌, ◌≤◌, true, refl, sym, ap, ◌∙◌, subst, arith, Some}
+use Rattle.std.proofs.Common.{◌≡◌, refl, sym, ap, ◌∙◌, subst, arith, Some}
 use Rattle.row_table.specs.Passes.{view_of, layout_of}
 use Rattle.row_table.specs.Books.{turned, Learns}
 use Rattle.reuse_plan.specs.Stock.{StockData, store}

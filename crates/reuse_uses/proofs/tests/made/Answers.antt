@@ -1,6 +1,5 @@
-use Rattle.std.proofs.Common.{◌≡◌, ℕ, [], ◌∷◌, length, length-append, refl, ap, ◌∙◌, arith, Some, List}
+use Rattle.std.proofs.Common.{◌≡◌, [], ◌∷◌, length, length-append, ap, arith, Some, List}
 use Rattle.row_cells.specs.declared.Cell.{Cell}
-use Rattle.row_cells.specs.Cells.{blank}
 use Rattle.row_table.specs.declared.pass.Pass.{Pass}
 use Rattle.row_table.specs.Passes.{view_of, number_of, IsPassOf}
 use Rattle.row_table.specs.Rule.{unmoved}

@@ -1,4 +1,4 @@
-use Rattle.std.proofs.Common.{true, ◌∙◌}
+use Rattle.std.proofs.Common.{◌∙◌}
 use Rattle.reuse_uses.proofs.Roots.{may_release_root, idle_after}
 use Rattle.reuse_uses.proofs.tests.use_often.Goals as goal
 
