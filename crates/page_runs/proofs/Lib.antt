@@ -2,7 +2,10 @@ pub mod Found
 pub mod Views
 pub mod Parts
 pub mod Split
-pub mod Changed
+pub mod Painted
+pub mod Vacant
+pub mod Made
+pub mod Full
 pub mod Walks
 pub mod Least
 pub mod Stretch

@@ -12,8 +12,9 @@ use Rattle.corten_base.specs.declared.calls.Backing.{Backing}
 use Rattle.corten_base.specs.declared.calls.Backing.TheVariants.{Zero, File}
 use Rattle.page_runs.specs.declared.mark.Mark.{Mark}
 use Rattle.page_runs.specs.declared.spans.Span.{Span}
-use Rattle.page_runs.specs.Mark.{goes_on, backing_after}
-use Rattle.page_runs.specs.Spans.{Spans, Marks, span_at, marks, AreRuns, IsLastUpTo, IsFirstFrom, IsRest}
+use Rattle.page_runs.specs.declared.spans.Marked.{Marked}
+use Rattle.page_runs.specs.Mark.{goes_on, backing_after, onward}
+use Rattle.page_runs.specs.Spans.{Spans, Marks, span_at, marks, AreRuns, HaveNone, IsFirstMarked, IsLastUpTo, IsRest}
 use Rattle.page_runs.specs.Runs.{HasNone, IsPart}
 use Rattle.page_runs.proofs.Views.{has, has_none, not_some}
 use Rattle.page_runs.proofs.Split.{goes_on-goes_on}
@@ -25,23 +26,34 @@ backing_here (File file index) = ap (File file) (omega arith)
 pub goes_on-zero : (mark : Mark) → goes_on mark 0 ≡ mark
 goes_on-zero mark = λ k. record { perm = mark.perm; backing = backing_here mark.backing k }
 
+-- a run without marks has none at any of its pages
+no_mark : (mark : Option Mark) (i j : ℕ) (there : Mark) → onward mark i ≡ None → onward mark j ≡ Some there → ⊥
+no_mark None i j there none some = not_some some
+no_mark (Some mark) i j there none some = not_some (sym none)
+
 module _ (spans : Spans) (runs : AreRuns spans) where
   -- the pages of a run
-  run_has : (first : ℕ) (span : Span) → span_at spans first ≡ Some span → (i : ℕ) → i < span.count → get (marks spans) (first + i) ≡ Some (goes_on span.mark i)
-  run_has first span there i below = has spans runs (first + i) (goes_on span.mark i) (record { first = first; span = span; place = i; there = there; below = below; is_page = refl; carries = refl })
+  run_has : (first : ℕ) (span : Span) → span_at spans first ≡ Some span → (i : ℕ) → i < span.count → get (marks spans) (first + i) ≡ onward span.mark i
+  run_has first span there i below = has spans runs (first + i) (onward span.mark i) (record { first = first; span = span; place = i; there = there; below = below; is_page = refl; carries = refl })
 
   module _ (page first : ℕ) (span : Span) (at : IsLastUpTo spans page first span) where
-    pub is_rest : page - first < span.count → IsRest (marks spans) page (record { count = span.count - (page - first); mark = goes_on span.mark (page - first) })
-    is_rest inside =
+    pub is_rest : (mark : Mark) → span.mark ≡ Some mark → page - first < span.count →
+        IsRest (marks spans) page (record { first = page; count = span.count - (page - first); mark = goes_on mark (page - first) })
+    is_rest mark is inside =
         let place : ℕ = page - first in
         let back : first + place ≡ page = omega (arith, at.near) in
         record {
           some = omega (arith, inside);
-          here = ap (get (marks spans)) (sym back) ∙ run_has first span at.there place inside;
+          here = ap (get (marks spans)) (sym back) ∙ run_has first span at.there place inside ∙ ap (λ m. onward m place) is;
           there = λ i below.
               let sum : page + i ≡ first + (place + i) = omega (arith, at.near) in
-              ap (get (marks spans)) sum ∙ run_has first span at.there (place + i) (omega (arith, below)) ∙ ap Some (sym (goes_on-goes_on span.mark place i));
+              ap (get (marks spans)) sum ∙ run_has first span at.there (place + i) (omega (arith, below)) ∙ ap (λ m. onward m (place + i)) is ∙ ap Some (sym (goes_on-goes_on mark place i));
         }
+
+    pub no_mark_here : span.mark ≡ None → page - first < span.count → get (marks spans) page ≡ None
+    no_mark_here none inside =
+        let back : first + (page - first) ≡ page = omega (arith, at.near) in
+        ap (get (marks spans)) (sym back) ∙ run_has first span at.there (page - first) inside ∙ ap (λ m. onward m (page - first)) none
 
     pub no_rest : span.count ≤ page - first → get (marks spans) page ≡ None
     no_rest far = has_none spans runs page (λ mark of. elim (cases_lt first of.first) [
@@ -62,29 +74,30 @@ module _ (spans : Spans) (runs : AreRuns spans) where
   pub none_up_to : (page : ℕ) → ((q : ℕ) → q ≤ page → span_at spans q ≡ None) → get (marks spans) page ≡ None
   none_up_to page none = has_none spans runs page (λ mark of. not_some (sym (none of.first (omega (arith, of.is_page))) ∙ of.there))
 
-  -- no run has the range's first page, and none starts between it and the next one
-  none_between : (first next : ℕ) → get (marks spans) first ≡ None → ((q : ℕ) → first ≤ q → q < next → span_at spans q ≡ None) → HasNone (marks spans) first next
+  -- the range's first page has no mark, and no run with marks starts between it and the next one
+  none_between : (first next : ℕ) → get (marks spans) first ≡ None → HaveNone spans first next → HasNone (marks spans) first next
   none_between first next none least page low high = has_none spans runs page (λ mark of. elim (cases_lt of.first first) [
     | inl before ↦
         let place : of.first + (first - of.first) ≡ first = omega (arith, before) in
-        not_some (sym none ∙ ap (get (marks spans)) (sym place) ∙ run_has of.first of.span of.there (first - of.first) (omega (arith, of.below, of.is_page, low, before)))
-    | inr from ↦ not_some (sym (least of.first from (omega (arith, of.is_page, high))) ∙ of.there)
+        let here = sym (run_has of.first of.span of.there (first - of.first) (omega (arith, of.below, of.is_page, low, before))) ∙ ap (get (marks spans)) place ∙ none in
+        no_mark of.span.mark (first - of.first) of.place mark here of.carries
+    | inr from ↦ not_some (sym (ap (λ m. onward m of.place) (least of.first of.span from (omega (arith, of.is_page, high)) of.there)) ∙ of.carries)
   ])
 
-  pub is_next_part : (first end next : ℕ) (span : Span) (count : ℕ) → get (marks spans) first ≡ None → IsFirstFrom spans first end next span → 0 < count → count ≤ span.count → next + count ≤ end →
-      IsPart (marks spans) first end (record { first = next; count = count; mark = span.mark })
-  is_next_part first end next span count none at some few within = record {
+  pub is_next_part : (first end : ℕ) (next : Marked) (count : ℕ) → get (marks spans) first ≡ None → IsFirstMarked spans first end next → 0 < count → count ≤ next.count → next.first + count ≤ end →
+      IsPart (marks spans) first end (record { first = next.first; count = count; mark = next.mark })
+  is_next_part first end next count none at some few within = record {
     from = at.from;
     some = some;
     within = within;
-    none_before = none_between first next none at.least;
-    there = λ i below. run_has next span at.there i (omega (arith, below, few));
+    none_before = none_between first next.first none at.none;
+    there = λ i below. run_has next.first (record { count = next.count; mark = Some next.mark }) at.there i (omega (arith, below, few));
   }
 
-  pub no_part : (first end : ℕ) → get (marks spans) first ≡ None → ((q : ℕ) → first ≤ q → q < end → span_at spans q ≡ None) → HasNone (marks spans) first end
+  pub no_part : (first end : ℕ) → get (marks spans) first ≡ None → HaveNone spans first end → HasNone (marks spans) first end
   no_part first end none least = none_between first end none least
 
-pub is_first_part : (m : Marks) (first end : ℕ) (rest : Span) (count : ℕ) → IsRest m first rest → 0 < count → count ≤ rest.count → first + count ≤ end →
+pub is_first_part : (m : Marks) (first end : ℕ) (rest : Marked) (count : ℕ) → IsRest m first rest → 0 < count → count ≤ rest.count → first + count ≤ end →
     IsPart m first end (record { first = first; count = count; mark = rest.mark })
 is_first_part m first end rest count at some few within = record {
   from = omega arith;

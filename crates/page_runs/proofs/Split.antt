@@ -1,7 +1,7 @@
 -- One run in the place of two, and two in the place of one.
 use Rattle.std.proofs.Common.{◌≡◌, ◌≢◌, ℕ, ◌+◌, ◌-◌, ◌^◌, ◌<◌, ◌≤◌, refl, sym, ap, subst, ◌∙◌, arith, add_assoc}
 use mathlib.Core.Logic.{◌⊎◌, inl, inr}
-use Rattle.std.specs.Prelude.{Some, None}
+use Rattle.std.specs.Prelude.{Option, Some, None}
 use Rattle.std.specs.Ordering.{nat_cmp}
 use Rattle.std.specs.BTreeMap.{IsOrdered}
 use Rattle.std.proofs.lemmas.Bool.{cases_lt, cases_eq}
@@ -9,8 +9,8 @@ use Rattle.corten_base.specs.declared.calls.Backing.{Backing}
 use Rattle.corten_base.specs.declared.calls.Backing.TheVariants.{Zero, File}
 use Rattle.page_runs.specs.declared.mark.Mark.{Mark}
 use Rattle.page_runs.specs.declared.spans.Span.{Span}
-use Rattle.page_runs.specs.Mark.{goes_on, backing_after, index_of}
-use Rattle.page_runs.specs.Spans.{Spans, span_at, marks, IsRun, AreRuns, IsEdge, IsLastUpTo, Sets}
+use Rattle.page_runs.specs.Mark.{goes_on, backing_after, index_of, onward, first_index}
+use Rattle.page_runs.specs.Spans.{Spans, span_at, marks, IsRun, AreRuns, IsEdge, IsTaken, IsLastUpTo, Sets}
 use Rattle.page_runs.proofs.Views.{IsIn, has, is_in, told, same_some, not_some}
 
 backing_after-backing_after : (b : Backing) (i j : ℕ) → backing_after (backing_after b i) j ≡ backing_after b (i + j)
@@ -20,13 +20,25 @@ backing_after-backing_after (File file index) i j = ap (File file) (add_assoc in
 pub goes_on-goes_on : (mark : Mark) (i j : ℕ) → goes_on (goes_on mark i) j ≡ goes_on mark (i + j)
 goes_on-goes_on mark i j = λ k. record { perm = mark.perm; backing = backing_after-backing_after mark.backing i j k }
 
-index_after : (b : Backing) (i n top : ℕ) → index_of b + (i + n) < top → index_of (backing_after b i) + n < top
+pub onward-onward : (mark : Option Mark) (i j : ℕ) → onward (onward mark i) j ≡ onward mark (i + j)
+onward-onward None i j = refl
+onward-onward (Some mark) i j = ap Some (goes_on-goes_on mark i j)
+
+pub index_after : (b : Backing) (i n top : ℕ) → index_of b + (i + n) < top → index_of (backing_after b i) + n < top
 index_after Zero i n top h = omega arith
 index_after (File file index) i n top h = omega arith
 
 index_before : (b : Backing) (i n top : ℕ) → index_of (backing_after b i) + n < top → i + n < top → index_of b + (i + n) < top
 index_before Zero i n top h low = omega arith
 index_before (File file index) i n top h low = omega arith
+
+first_after : (mark : Option Mark) (i n top : ℕ) → first_index mark + (i + n) < top → first_index (onward mark i) + n < top
+first_after None i n top h = omega (arith, h)
+first_after (Some mark) i n top h = index_after mark.backing i n top h
+
+first_before : (mark : Option Mark) (i n top : ℕ) → first_index (onward mark i) + n < top → i + n < top → first_index mark + (i + n) < top
+first_before None i n top h low = omega (arith, low)
+first_before (Some mark) i n top h low = index_before mark.backing i n top h low
 
 run_at : {p q : ℕ} {s t : Span} → p ≡ q → s ≡ t → IsRun p s → IsRun q t
 run_at {p} {q} {s} {t} e f r = subst (λ n. IsRun n t) e (subst (IsRun p) f r)
@@ -41,7 +53,7 @@ pub record IsHalved (whole halved : Spans) (first page : ℕ) (span lower upper 
   pub meets : first + lower.count ≡ page
   pub together : span.count ≡ lower.count + upper.count
   pub lower_mark : lower.mark ≡ span.mark
-  pub upper_mark : upper.mark ≡ goes_on span.mark lower.count
+  pub upper_mark : upper.mark ≡ onward span.mark lower.count
   pub lower_some : 0 < lower.count
   pub upper_some : 0 < upper.count
 
@@ -88,15 +100,15 @@ module _ (whole halved : Spans) (first page : ℕ) (span lower upper : Span) (h 
     lower_run = record {
       some = h.lower_some;
       pages = omega (arith, is_run.pages, h.together);
-      indexes = subst (λ m. index_of m.backing + lower.count < 2 ^ 64) (sym h.lower_mark) (omega (arith, is_run.indexes, h.together));
+      indexes = subst (λ m. first_index m + lower.count < 2 ^ 64) (sym h.lower_mark) (omega (arith, is_run.indexes, h.together));
     }
 
     upper_run : IsRun page upper
     upper_run = record {
       some = h.upper_some;
       pages = omega (arith, is_run.pages, h.together, h.meets);
-      indexes = subst (λ m. index_of m.backing + upper.count < 2 ^ 64) (sym h.upper_mark)
-          (index_after span.mark.backing lower.count upper.count (2 ^ 64) (omega (arith, is_run.indexes, h.together)));
+      indexes = subst (λ m. first_index m + upper.count < 2 ^ 64) (sym h.upper_mark)
+          (first_after span.mark lower.count upper.count (2 ^ 64) (omega (arith, is_run.indexes, h.together)));
     }
 
     half_run : (q : ℕ) (s : Span) → Which q s → IsRun q s
@@ -154,10 +166,10 @@ module _ (whole halved : Spans) (first page : ℕ) (span lower upper : Span) (h 
         record {
           some = omega (arith, many, h.lower_some);
           pages = omega (arith, many, a.0, up.pages, h.meets);
-          indexes = subst (λ t. index_of t.mark.backing + t.count < 2 ^ 64) (sym a.1)
-              (subst (λ n. index_of span.mark.backing + n < 2 ^ 64) (sym h.together)
-              (index_before span.mark.backing lower.count upper.count (2 ^ 64)
-              (subst (λ m. index_of m.backing + upper.count < 2 ^ 64) h.upper_mark up.indexes) (omega (arith, up.pages, h.meets))));
+          indexes = subst (λ t. first_index t.mark + t.count < 2 ^ 64) (sym a.1)
+              (subst (λ n. first_index span.mark + n < 2 ^ 64) (sym h.together)
+              (first_before span.mark lower.count upper.count (2 ^ 64)
+              (subst (λ m. first_index m + upper.count < 2 ^ 64) h.upper_mark up.indexes) (omega (arith, up.pages, h.meets))));
         }
     whole_run q s (inr a) = runs.whole q s a.2
 
@@ -182,16 +194,16 @@ module _ (whole halved : Spans) (first page : ℕ) (span lower upper : Span) (h 
     }
 
   -- both have the same pages
-  in_halves : (q : ℕ) (mark : Mark) → IsIn whole.entries q mark → IsIn halved.entries q mark
-  in_halves q mark at = go (whole_which at.first at.span at.there)
+  in_halves : (q : ℕ) (found : Option Mark) → IsIn whole.entries q found → IsIn halved.entries q found
+  in_halves q found at = go (whole_which at.first at.span at.there)
     where
-      go : Whole at.first at.span → IsIn halved.entries q mark
+      go : Whole at.first at.span → IsIn halved.entries q found
       go (inr a) = record { first = at.first; span = at.span; place = at.place; there = a.2; below = at.below; is_page = at.is_page; carries = at.carries }
       go (inl a) =
-          let carries : goes_on span.mark at.place ≡ mark = ap (λ s. goes_on s.mark at.place) (sym a.1) ∙ at.carries in
+          let carries : onward span.mark at.place ≡ found = ap (λ s. onward s.mark at.place) (sym a.1) ∙ at.carries in
           let inside : at.place < span.count = subst (λ s. at.place < s.count) a.1 at.below in
           elim (cases_lt at.place lower.count) [
-            | inl low ↦ record { first = first; span = lower; place = at.place; there = h.half_first; below = low; is_page = omega (arith, a.0, at.is_page); carries = ap (λ m. goes_on m at.place) h.lower_mark ∙ carries }
+            | inl low ↦ record { first = first; span = lower; place = at.place; there = h.half_first; below = low; is_page = omega (arith, a.0, at.is_page); carries = ap (λ m. onward m at.place) h.lower_mark ∙ carries }
             | inr high ↦
                 let back : lower.count + (at.place - lower.count) ≡ at.place = omega (arith, high) in
                 record {
@@ -201,14 +213,14 @@ module _ (whole halved : Spans) (first page : ℕ) (span lower upper : Span) (h 
                   there = h.half_page;
                   below = omega (arith, inside, high, h.together);
                   is_page = omega (arith, a.0, high, at.is_page, h.meets);
-                  carries = ap (λ m. goes_on m (at.place - lower.count)) h.upper_mark ∙ goes_on-goes_on span.mark lower.count (at.place - lower.count) ∙ ap (goes_on span.mark) back ∙ carries;
+                  carries = ap (λ m. onward m (at.place - lower.count)) h.upper_mark ∙ onward-onward span.mark lower.count (at.place - lower.count) ∙ ap (onward span.mark) back ∙ carries;
                 }
           ]
 
-  in_whole : (q : ℕ) (mark : Mark) → IsIn halved.entries q mark → IsIn whole.entries q mark
-  in_whole q mark at = go (which at.first at.span at.there)
+  in_whole : (q : ℕ) (found : Option Mark) → IsIn halved.entries q found → IsIn whole.entries q found
+  in_whole q found at = go (which at.first at.span at.there)
     where
-      go : Which at.first at.span → IsIn whole.entries q mark
+      go : Which at.first at.span → IsIn whole.entries q found
       go (inl a) = record {
         first = first;
         span = span;
@@ -216,7 +228,7 @@ module _ (whole halved : Spans) (first page : ℕ) (span lower upper : Span) (h 
         there = h.whole_first;
         below = omega (arith, at.below, lower_count at.span a.1, h.together);
         is_page = omega (arith, a.0, at.is_page);
-        carries = ap (λ m. goes_on m at.place) (sym h.lower_mark) ∙ ap (λ s. goes_on s.mark at.place) (sym a.1) ∙ at.carries;
+        carries = ap (λ m. onward m at.place) (sym h.lower_mark) ∙ ap (λ s. onward s.mark at.place) (sym a.1) ∙ at.carries;
       }
       go (inr (inl a)) = record {
         first = first;
@@ -225,16 +237,22 @@ module _ (whole halved : Spans) (first page : ℕ) (span lower upper : Span) (h 
         there = h.whole_first;
         below = omega (arith, at.below, upper_count at.span a.1, h.together);
         is_page = omega (arith, a.0, at.is_page, h.meets);
-        carries = sym (goes_on-goes_on span.mark lower.count at.place) ∙ ap (λ m. goes_on m at.place) (sym h.upper_mark) ∙ ap (λ s. goes_on s.mark at.place) (sym a.1) ∙ at.carries;
+        carries = sym (onward-onward span.mark lower.count at.place) ∙ ap (λ m. onward m at.place) (sym h.upper_mark) ∙ ap (λ s. onward s.mark at.place) (sym a.1) ∙ at.carries;
       }
       go (inr (inr a)) = record { first = at.first; span = at.span; place = at.place; there = a.2; below = at.below; is_page = at.is_page; carries = at.carries }
 
+  pub taken_stays : (q : ℕ) → IsTaken whole q → IsTaken halved q
+  taken_stays q at =
+      let in_half = in_halves q (onward at.span.mark (q - at.first))
+      (record { first = at.first; span = at.span; place = q - at.first; there = at.there; below = omega (arith, at.low, at.high); is_page = omega (arith, at.low); carries = refl }) in
+      record { first = in_half.first; span = in_half.span; there = in_half.there; low = omega (arith, in_half.is_page); high = omega (arith, in_half.is_page, in_half.below) }
+
   pub same_marks : AreRuns whole → AreRuns halved → marks halved ≡ marks whole
-  same_marks runs halves = told halved halves (marks whole) (λ q mark at. has whole runs q mark (in_whole q mark at)) (λ q mark is. in_halves q mark (is_in whole runs q mark is))
+  same_marks runs halves = told halved halves (marks whole) (λ q found at. has whole runs q found (in_whole q found at)) (λ q mark is. in_halves q (Some mark) (is_in whole runs q mark is))
 
 -- what splitting leaves
 pub is_halved : (m middle n : Spans) (page first : ℕ) (span upper : Span) → IsLastUpTo m page first span → page - first ≢ 0 → page - first < span.count →
-    upper.count ≡ span.count - (page - first) → upper.mark ≡ goes_on span.mark (page - first) → Sets m middle page (Some upper) →
+    upper.count ≡ span.count - (page - first) → upper.mark ≡ onward span.mark (page - first) → Sets m middle page (Some upper) →
     Sets middle n first (Some (record { count = page - first; mark = span.mark })) → IsHalved m n first page span (record { count = page - first; mark = span.mark }) upper
 is_halved m middle n page first span upper at some inside many carries above below =
     let less : first < page = omega (arith, some) in
@@ -254,7 +272,7 @@ is_halved m middle n page first span upper at some inside many carries above bel
 
 -- what joining leaves
 pub was_halved : (m middle n : Spans) (page first : ℕ) (lower upper : Span) → AreRuns m → span_at m first ≡ Some lower → span_at m page ≡ Some upper → first < page → lower.count ≡ page - first →
-    goes_on lower.mark lower.count ≡ upper.mark → Sets m middle page None → Sets middle n first (Some (record { count = lower.count + upper.count; mark = lower.mark })) →
+    onward lower.mark lower.count ≡ upper.mark → Sets m middle page None → Sets middle n first (Some (record { count = lower.count + upper.count; mark = lower.mark })) →
     IsHalved n m first page (record { count = lower.count + upper.count; mark = lower.mark }) lower upper
 was_halved m middle n page first lower upper runs low high less meets carries gone both = record {
   whole_first = both.here;

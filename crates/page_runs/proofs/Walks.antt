@@ -8,7 +8,7 @@ use Rattle.std.proofs.lemmas.Bool.{cases_lt, cases_eq}
 use Rattle.page_runs.specs.declared.spans.Span.{Span}
 use Rattle.page_runs.specs.Spans.{Spans, span_at, IsFirstFrom, Sets, Changes}
 
-pub no_change : (f : Option Span → Option Span) (first : ℕ) (spans : Spans) → IsOrdered nat_cmp spans → Changes f first first spans spans
+pub no_change : (f : ℕ → Option Span → Option Span) (first : ℕ) (spans : Spans) → IsOrdered nat_cmp spans → Changes f first first spans spans
 no_change f first spans ordered = record {
   ordered = ordered;
   below = λ q less. refl;
@@ -16,19 +16,19 @@ no_change f first spans ordered = record {
   above = λ q more. refl;
 }
 
-module _ (f : Option Span → Option Span) (none : f None ≡ None) (first next end : ℕ) (low : first ≤ next) (old now : Spans) (so_far : Changes f first next old now) where
+module _ (f : ℕ → Option Span → Option Span) (none : (q : ℕ) → f q None ≡ None) (first next end : ℕ) (low : first ≤ next) (old now : Spans) (so_far : Changes f first next old now) where
   -- the next run has changed
-  pub one_more : (key : ℕ) (span : Span) (new : Spans) → IsFirstFrom now next end key span → Sets now new key (f (Some span)) → Changes f first (key + 1) old new
+  pub one_more : (key : ℕ) (span : Span) (new : Spans) → IsFirstFrom now next end key span → Sets now new key (f key (Some span)) → Changes f first (key + 1) old new
   one_more key span new at sets = record {
     ordered = sets.ordered;
     below = λ q less. sets.others q (λ same. absurd (omega (arith, same, less, low, at.from))) ∙ so_far.below q less;
     changed = λ q from to. elim (cases_eq q key) [
-      | inl same ↦ ap (span_at new) same ∙ sets.here ∙ ap f (sym at.there ∙ so_far.above key at.from) ∙ ap (λ k. f (span_at old k)) (sym same)
+      | inl same ↦ ap (span_at new) same ∙ sets.here ∙ ap (f key) (sym at.there ∙ so_far.above key at.from) ∙ ap (λ k. f k (span_at old k)) (sym same)
       | inr other ↦ sets.others q other ∙ elim (cases_lt q next) [
         | inl before ↦ so_far.changed q from before
         | inr after ↦
             let below : q < key = omega (arith, to, other) in
-            at.least q after below ∙ sym none ∙ ap f (sym (at.least q after below) ∙ so_far.above q after)
+            at.least q after below ∙ sym (none q) ∙ ap (f q) (sym (at.least q after below) ∙ so_far.above q after)
       ]
     ];
     above = λ q more. sets.others q (λ same. absurd (omega (arith, same, more))) ∙ so_far.above q (omega (arith, more, at.from));
@@ -41,7 +41,7 @@ module _ (f : Option Span → Option Span) (none : f None ≡ None) (first next 
     below = so_far.below;
     changed = λ q from to. elim (cases_lt q next) [
       | inl before ↦ so_far.changed q from before
-      | inr after ↦ rest q after to ∙ sym none ∙ ap f (sym (rest q after to) ∙ so_far.above q after)
+      | inr after ↦ rest q after to ∙ sym (none q) ∙ ap (f q) (sym (rest q after to) ∙ so_far.above q after)
     ];
     above = λ q more. so_far.above q (omega (arith, more, room));
   }

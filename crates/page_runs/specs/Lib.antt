@@ -1,3 +1,4 @@
 pub mod Mark
 pub mod Spans
+pub mod Changes
 pub mod Runs

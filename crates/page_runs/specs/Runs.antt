@@ -1,9 +1,10 @@
 -- What the runs of a space tell of its pages.
 --     IsPart      a run's part in a range: the first pages of the range that have marks, which go on from one another
 --     HasNone      no page of a range has a mark
---     IsStretch      how many pages of a range go on from its first one
+--     AreAlike, IsStretch      so many pages go on from a first one;  how many of a range do
+--     IsFullFrom      how many pages of a range have marks before the first that has none
 --     is_vacant      whether none has
-use Rattle.std.specs.Prelude.{◌≡◌, ◌≢◌, ℕ, ◌+◌, ◌<◌, ◌≤◌, Bool, is_some, is_none, Some, None}
+use Rattle.std.specs.Prelude.{◌≡◌, ◌≢◌, ℕ, ◌+◌, ◌<◌, ◌≤◌, Bool, is_some, is_none, IsSome, None, Some}
 use Rattle.std.specs.Option.{option_map}
 use Rattle.std.specs.FinMap.{get}
 use Rattle.page_map.specs.Change.{least}
@@ -21,12 +22,21 @@ pub record IsPart (m : Marks) (first end : ℕ) (run : Run) : Type 0 where
   pub none_before : HasNone m first run.first
   pub there : (i : ℕ) → i < run.count → get m (run.first + i) ≡ Some (goes_on run.mark i)
 
--- As many pages of a range as go on from its first one: all have marks that go on from that one's, or none has a mark.
+-- all have marks that go on from the first one's, or none has a mark
+abbrev pub AreAlike : Marks → ℕ → ℕ → Type 0
+AreAlike m first count = (i : ℕ) → i < count → get m (first + i) ≡ option_map (λ mark. goes_on mark i) (get m first)
+
+-- as many pages of a range as go on from its first one
 pub record IsStretch (m : Marks) (first end count : ℕ) : Type 0 where
   pub some : 0 < count
   pub within : first + count ≤ end
-  pub alike : (i : ℕ) → i < count → get m (first + i) ≡ option_map (λ mark. goes_on mark i) (get m first)
+  pub alike : AreAlike m first count
   pub ends : first + count < end → get m (first + count) ≢ option_map (λ mark. goes_on mark count) (get m first)
+
+pub record IsFullFrom (m : Marks) (first end count : ℕ) : Type 0 where
+  pub within : first + count ≤ end
+  pub full : (i : ℕ) → i < count → IsSome (get m (first + i))
+  pub ends : first + count < end → get m (first + count) ≡ None
 
 -- whether no page of so many has a mark
 abbrev pub is_vacant : Marks → ℕ → ℕ → Bool

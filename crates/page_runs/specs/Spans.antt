@@ -4,9 +4,11 @@
 --     marks      what the runs say of each page
 --     AreRuns      runs that have pages, and none in common
 --     IsEdge      no run goes on across a page's beginning
+--     IsTaken, IsFree      a run has the page;  none has it
+--     AreTaken, IsTakenTo, IsGap      a run has each page of a range;  each from a page on up to another;  no run starts there
 --     IsLastUpTo, IsFirstFrom      the last run that starts up to a page;  the first that starts in a range
+--     HaveNone, IsFirstMarked      no run with marks starts in a range;  the first that does
 --     IsRest      what is left of a run from a page on
---     painted      a run with other permissions
 --     Sets, Changes      one run is set;  the runs that start in a range change
 use Rattle.std.specs.Prelude.{◌≡◌, ℕ, ◌+◌, ◌-◌, ◌^◌, ◌<◌, ◌≤◌, ◌≢◌, List, [], ◌∷◌, Option, Some, None}
 use Rattle.std.specs.Option.{option_map}
@@ -17,7 +19,8 @@ use Rattle.std.specs.FinMap.{FinMap, empty, get}
 use Rattle.page_map.specs.Change.{change}
 use Rattle.page_runs.specs.declared.mark.Mark.{Mark}
 use Rattle.page_runs.specs.declared.spans.Span.{Span}
-use Rattle.page_runs.specs.Mark.{goes_on, index_of, with_perm}
+use Rattle.page_runs.specs.declared.spans.Marked.{Marked}
+use Rattle.page_runs.specs.Mark.{first_index, goes_on, onward, with_perm}
 use Rattle.corten_base.specs.declared.permissions.Perm.{Perm}
 
 abbrev pub Spans : Type 0
@@ -42,10 +45,10 @@ protected m first count perm = change m first count (λ _. option_map (with_perm
 abbrev pub span_at : Spans → ℕ → Option Span
 span_at spans first = tree.get nat_cmp spans first
 
--- each page of a run has the mark that goes on from the run's first one
+-- each page of a run has the mark that goes on from the run's first one, or none if the run has no marks
 unfoldable pub marks_of : List (ℕ × Span) → Marks
 marks_of [] = empty
-marks_of (e ∷ es) = change (marks_of es) e.0 e.1.count (λ page _. Some (goes_on e.1.mark (page - e.0)))
+marks_of (e ∷ es) = change (marks_of es) e.0 e.1.count (λ page _. onward e.1.mark (page - e.0))
 
 abbrev pub marks : Spans → Marks
 marks spans = marks_of spans.entries
@@ -54,7 +57,7 @@ marks spans = marks_of spans.entries
 pub record IsRun (first : ℕ) (span : Span) : Type 0 where
   pub some : 0 < span.count
   pub pages : first + span.count < 2 ^ 64
-  pub indexes : index_of span.mark.backing + span.count < 2 ^ 64
+  pub indexes : first_index span.mark + span.count < 2 ^ 64
 
 -- no page is in two of them
 pub record AreRuns (spans : Spans) : Type 0 where
@@ -66,13 +69,35 @@ pub record AreRuns (spans : Spans) : Type 0 where
 abbrev pub IsEdge : ℕ → Spans → Type 0
 IsEdge page spans = (first : ℕ) (span : Span) → span_at spans first ≡ Some span → first < page → first + span.count ≤ page
 
+pub record IsTaken (spans : Spans) (page : ℕ) : Type 0 where
+  pub first : ℕ
+  pub span : Span
+  pub there : span_at spans first ≡ Some span
+  pub low : first ≤ page
+  pub high : page < first + span.count
+
+abbrev pub IsFree : Spans → ℕ → Type 0
+IsFree spans page = (first : ℕ) (span : Span) → span_at spans first ≡ Some span → first ≤ page → first + span.count ≤ page
+
+abbrev pub AreTaken : Spans → ℕ → ℕ → Type 0
+AreTaken spans first end = (page : ℕ) → first ≤ page → page < end → IsTaken spans page
+
+-- no run starts from a page on up to another
+pub record IsGap (spans : Spans) (first end : ℕ) : Type 0 where
+  pub some : first < end
+  pub none : (q : ℕ) → first ≤ q → q < end → span_at spans q ≡ None
+
+pub record IsTakenTo (spans : Spans) (first end : ℕ) : Type 0 where
+  pub some : first < end
+  pub taken : AreTaken spans first end
+
 pub record IsLastUpTo (spans : Spans) (page first : ℕ) (span : Span) : Type 0 where
   pub near : first ≤ page
   pub there : span_at spans first ≡ Some span
   pub last : (q : ℕ) → first < q → q ≤ page → span_at spans q ≡ None
 
 -- from the page on so many pages go on from one another
-pub record IsRest (m : Marks) (page : ℕ) (rest : Span) : Type 0 where
+pub record IsRest (m : Marks) (page : ℕ) (rest : Marked) : Type 0 where
   pub some : 0 < rest.count
   pub here : get m page ≡ Some rest.mark
   pub there : (i : ℕ) → i < rest.count → get m (page + i) ≡ Some (goes_on rest.mark i)
@@ -83,19 +108,24 @@ pub record IsFirstFrom (spans : Spans) (low end first : ℕ) (span : Span) : Typ
   pub there : span_at spans first ≡ Some span
   pub least : (q : ℕ) → low ≤ q → q < first → span_at spans q ≡ None
 
+abbrev pub HaveNone : Spans → ℕ → ℕ → Type 0
+HaveNone spans first end = (q : ℕ) (span : Span) → first ≤ q → q < end → span_at spans q ≡ Some span → span.mark ≡ None
+
+pub record IsFirstMarked (spans : Spans) (low end : ℕ) (found : Marked) : Type 0 where
+  pub from : low ≤ found.first
+  pub before : found.first < end
+  pub there : span_at spans found.first ≡ Some (record { count = found.count; mark = Some found.mark })
+  pub none : HaveNone spans low found.first
+
 -- what starts at one page is set, and each other page keeps what starts there
 pub record Sets (old new : Spans) (first : ℕ) (span : Option Span) : Type 0 where
   pub ordered : IsOrdered nat_cmp new
   pub here : span_at new first ≡ span
   pub others : (q : ℕ) → q ≢ first → span_at new q ≡ span_at old q
 
--- a run with other permissions
-abbrev pub painted : Perm → Span → Span
-painted perm span = record { count = span.count; mark = with_perm perm span.mark }
-
--- what starts in a range changes by a function, and all else stays
-pub record Changes (f : Option Span → Option Span) (first end : ℕ) (old new : Spans) : Type 0 where
+-- what starts in a range changes by a function of the page and of what starts there, and all else stays
+pub record Changes (f : ℕ → Option Span → Option Span) (first end : ℕ) (old new : Spans) : Type 0 where
   pub ordered : IsOrdered nat_cmp new
   pub below : (q : ℕ) → q < first → span_at new q ≡ span_at old q
-  pub changed : (q : ℕ) → first ≤ q → q < end → span_at new q ≡ f (span_at old q)
+  pub changed : (q : ℕ) → first ≤ q → q < end → span_at new q ≡ f q (span_at old q)
   pub above : (q : ℕ) → end ≤ q → span_at new q ≡ span_at old q

@@ -1,6 +1,6 @@
 //! What stands at a page of a mapping.
 ghost use Rattle.std.specs.Prelude.{◌≡◌, ◌+◌, ◌^◌, ◌<◌, ◌↔◌, IsTrue};
-ghost use Rattle.page_runs.specs.Mark.{backing_after, goes_on, index_of, with_perm};
+ghost use Rattle.page_runs.specs.Mark.{backing_after, first_index, goes_on, index_of, onward, with_perm};
 
 use corten_base::{Backing, Perm};
 
@@ -71,5 +71,27 @@ impl Mark {
             perm,
             backing: self.backing,
         }
+    }
+}
+
+/// The mark that goes on so many pages further, where there is one.
+pub(crate) fn onward(mark: Option<Mark>, pages: u64) -> Option<Mark>
+    requires { first_index mark + pages < 2 ^ 64 }
+    ensures { result ≡ onward mark pages }
+{
+    match mark {
+        Some(mark) => Some(mark.after(pages)),
+        None => None,
+    }
+}
+
+/// Whether what stands so many pages further goes on: a mark that goes on from this one, or none after none.
+pub(crate) fn is_onward(mark: Option<Mark>, pages: u64, later: Option<Mark>) -> bool
+    ensures { IsTrue result ↔ (onward mark pages ≡ later) }
+{
+    match (mark, later) {
+        (Some(mark), Some(later)) => mark.continues(pages, later),
+        (None, None) => true,
+        _ => false,
     }
 }

@@ -1,15 +1,17 @@
 //! What stands at each page of a space.
-ghost use Rattle.std.specs.Prelude.{◌≡◌, ℕ, ◌+◌, ◌-◌, ◌^◌, ◌<◌, ◌≤◌, Some, None, IfOk, IfSome, IfNone, OnOk, OnErr, is_some, is_none};
-ghost use Rattle.std.specs.Option.{option_map};
+ghost use Rattle.std.specs.Prelude.{◌≡◌, ℕ, ◌+◌, ◌-◌, ◌^◌, ◌<◌, ◌≤◌, ◌↔◌, IsTrue, Some, None, IfOk, IfSome, IfNone, OnOk, OnErr, is_some, is_none};
+ghost use Rattle.std.specs.List.{All};
 ghost use Rattle.std.specs.FinMap as map;
 ghost use Rattle.page_map.specs.Change.{least};
-ghost use Rattle.page_runs.specs.Mark.{goes_on, index_of, with_perm};
+ghost use Rattle.page_runs.specs.Mark.{index_of};
 ghost use Rattle.page_runs.specs.Spans.{mapped, protected, unmapped};
-ghost use Rattle.page_runs.specs.Runs.{IsPart, HasNone, IsStretch, is_vacant};
+ghost use Rattle.page_runs.specs.Changes.{IsChange, after_changes};
+ghost use Rattle.page_runs.specs.Runs.{AreAlike, IsFullFrom, IsPart, HasNone, IsStretch, is_vacant};
 
+use crate::change::{Change, Effect};
+use crate::changes;
 use crate::mark::Mark;
-use crate::ranges;
-use crate::spans::{Span, Spans, first_in, rest_at};
+use crate::spans::{Spans, first_marked, rest_at};
 use corten_base::Perm;
 use std::alloc::{AllocError, Global};
 use std::collections::BTreeMap;
@@ -86,13 +88,13 @@ impl PageRuns {
                 mark: rest.mark,
             });
         }
-        let Some((start, span)) = first_in(&self.spans, first, end) else {
+        let Some(next) = first_marked(&self.spans, first, end) else {
             return None;
         };
         Some(Run {
-            first: start,
-            count: span.count.min(end - start),
-            mark: span.mark,
+            first: next.first,
+            count: next.count.min(end - next.first),
+            mark: next.mark,
         })
     }
 
@@ -163,6 +165,34 @@ impl PageRuns {
         count
     }
 
+    /// How many pages of a range from its first one on have marks, up to the first that has none.
+    pub fn full_from(&self, first: u64, end: u64) -> u64
+        requires { first ≤ end }
+        ensures { IsFullFrom self.now first end result }
+    {
+        match self.hole(first, end) {
+            Some(hole) => hole - first,
+            None => end - first,
+        }
+    }
+
+    /// Whether all pages of a range go on from its first one: without marks after one without.
+    pub fn is_alike(&self, first: u64, end: u64) -> bool
+        requires { first < end }
+        ensures { IsTrue result ↔ AreAlike self.now first (end - first) }
+    {
+        self.stretch(first, end) == end - first
+    }
+
+    /// Makes changes one after the other, all or none: a range may have pages of one before it.
+    pub fn apply(&mut self, changes: &[Change]) -> Result<(), AllocError>
+        requires { All IsChange changes.now }
+        ensures ok { OnOk result (self.new ≡ after_changes self.old changes.now) }
+        ensures err { OnErr result (self.new ≡ self.old) }
+    {
+        changes::apply(&mut self.spans, changes)
+    }
+
     /// Puts marks that go on from one another in the place of what was there.
     pub fn replace(&mut self, run: Run) -> Result<(), AllocError>
         requires some { 0 < run.count }
@@ -171,11 +201,11 @@ impl PageRuns {
         ensures ok { OnOk result (self.new ≡ mapped self.old run.first run.count run.mark) }
         ensures err { OnErr result (self.new ≡ self.old) }
     {
-        let span = Span {
+        self.apply(&[Change {
+            first: run.first,
             count: run.count,
-            mark: run.mark,
-        };
-        ranges::replace(&mut self.spans, run.first, span)
+            effect: Effect::Map(run.mark),
+        }])
     }
 
     /// Takes the marks of a range out.
@@ -184,7 +214,11 @@ impl PageRuns {
         ensures ok { OnOk result (self.new ≡ unmapped self.old first count) }
         ensures err { OnErr result (self.new ≡ self.old) }
     {
-        ranges::remove(&mut self.spans, first, count)
+        self.apply(&[Change {
+            first,
+            count,
+            effect: Effect::Unmap,
+        }])
     }
 
     /// Gives the marks of a range other permissions.
@@ -193,7 +227,11 @@ impl PageRuns {
         ensures ok { OnOk result (self.new ≡ protected self.old first count perm) }
         ensures err { OnErr result (self.new ≡ self.old) }
     {
-        ranges::protect(&mut self.spans, first, count, perm)
+        self.apply(&[Change {
+            first,
+            count,
+            effect: Effect::Protect(perm),
+        }])
     }
 
     /// The same marks once more.

@@ -3,15 +3,24 @@ ghost use Rattle.std.specs.Prelude.{◌≡◌, ℕ, ◌+◌, ◌<◌, ◌≤◌,
 ghost use Rattle.std.specs.Ordering.{nat_cmp};
 ghost use Rattle.std.specs.BTreeMap.{IsOrdered, IsUnchanged};
 ghost use Rattle.std.specs.FinMap.{get};
-ghost use Rattle.page_runs.specs.Spans.{span_at, marks, AreRuns, IsLastUpTo, IsFirstFrom, IsRest, Sets};
+ghost use Rattle.page_runs.specs.Spans.{span_at, marks, AreRuns, HaveNone, IsFirstFrom, IsFirstMarked, IsLastUpTo, IsRest, Sets};
 
 use crate::mark::Mark;
 use std::alloc::AllocError;
 use std::collections::BTreeMap;
 
-/// How many pages a run has, and what stands at its first one.
+/// How many pages a run has, and what stands at its first one. While changes are made, runs without marks keep a place
+/// for those to come.
 #[derive(Clone, Copy)]
 pub(crate) struct Span {
+    pub(crate) count: u64,
+    pub(crate) mark: Option<Mark>,
+}
+
+/// Pages with marks that go on from one another.
+#[derive(Clone, Copy)]
+pub(crate) struct Marked {
+    pub(crate) first: u64,
     pub(crate) count: u64,
     pub(crate) mark: Mark,
 }
@@ -30,8 +39,8 @@ pub(crate) fn at_or_before(spans: &Spans, page: u64) -> Option<(u64, Span)>
     }
 }
 
-/// What is left from a page on of the run that the page is in.
-pub(crate) fn rest_at(spans: &Spans, page: u64) -> Option<Span>
+/// What is left from a page on of the run that the page is in, if it has a mark.
+pub(crate) fn rest_at(spans: &Spans, page: u64) -> Option<Marked>
     requires { AreRuns spans.now }
     ensures some { IfSome result (IsRest (marks spans.now) page) }
     ensures none { IfNone result (get (marks spans.now) page ≡ None) }
@@ -43,9 +52,13 @@ pub(crate) fn rest_at(spans: &Spans, page: u64) -> Option<Span>
     if span.count <= place {
         return None;
     }
-    Some(Span {
+    let Some(mark) = span.mark else {
+        return None;
+    };
+    Some(Marked {
+        first: page,
         count: span.count - place,
-        mark: span.mark.after(place),
+        mark: mark.after(place),
     })
 }
 
@@ -60,6 +73,26 @@ pub(crate) fn first_in(spans: &Spans, first: u64, end: u64) -> Option<(u64, Span
         Some((first, span)) => Some((*first, *span)),
         None => None,
     }
+}
+
+/// The first run with marks that starts in a range.
+pub(crate) fn first_marked(spans: &Spans, first: u64, end: u64) -> Option<Marked>
+    requires { first ≤ end }
+    ensures some { IfSome result (IsFirstMarked spans.now first end) }
+    ensures none { IfNone result (HaveNone spans.now first end) }
+{
+    let mut next = first;
+    while let Some((at, span)) = first_in(spans, next, end) {
+        if let Some(mark) = span.mark {
+            return Some(Marked {
+                first: at,
+                count: span.count,
+                mark,
+            });
+        }
+        next = at + 1;
+    }
+    None
 }
 
 /// Sets a run where none may start yet.

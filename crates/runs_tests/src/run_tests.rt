@@ -1,9 +1,10 @@
 //! Runs that are split, joined, replaced and copied: how many are left, and what stands at their first pages.
-ghost use Rattle.std.specs.Prelude.{◌≡◌};
+ghost use Rattle.std.specs.Prelude.{◌≡◌, ◌+◌, ◌^◌, ◌<◌};
 ghost use Rattle.page_runs.specs.Mark.{index_of};
+ghost use Rattle.page_runs.specs.Changes.{IsChange};
 
 use corten_base::{Backing, Perm};
-use page_runs::{Mark, PageRuns, Run};
+use page_runs::{Change, Effect, Mark, PageRuns, Run};
 use std::test::Fail;
 
 const READ_WRITE: Perm = Perm {
@@ -19,6 +20,43 @@ fn of_file(perm: Perm, index: u64) -> Mark
     Mark {
         perm,
         backing: Backing::File { file: 3, index },
+    }
+}
+
+/// A change that maps pages of the file 3.
+fn map(first: u64, count: u64, index: u64) -> Change
+    requires pages { first + count < 2 ^ 64 }
+    requires indexes { index + count < 2 ^ 64 }
+    ensures { IsChange result }
+{
+    Change {
+        first,
+        count,
+        effect: Effect::Map(of_file(READ_WRITE, index)),
+    }
+}
+
+/// A change that leaves no marks.
+fn unmap(first: u64, count: u64) -> Change
+    requires { first + count < 2 ^ 64 }
+    ensures { IsChange result }
+{
+    Change {
+        first,
+        count,
+        effect: Effect::Unmap,
+    }
+}
+
+/// A change that lets pages only be read.
+fn protect(first: u64, count: u64) -> Change
+    requires { first + count < 2 ^ 64 }
+    ensures { IsChange result }
+{
+    Change {
+        first,
+        count,
+        effect: Effect::Protect(Perm::R),
     }
 }
 
@@ -74,5 +112,32 @@ fn holes_and_gaps_are_found(rt: HostRuntime) -> Result<(), Fail> {
     assert_eq!(rt; runs.gap(16, 64, 33), None);
     assert_eq!(rt; runs.stretch(18, 64), 3);
     assert_eq!(rt; runs.stretch(21, 64), 11);
+    assert_eq!(rt; runs.full_from(16, 64), 2);
+    assert_eq!(rt; runs.full_from(21, 64), 11);
+    assert_eq!(rt; runs.is_alike(18, 21), true);
+    assert_eq!(rt; runs.is_alike(18, 22), false);
+    Ok(())
+}
+
+#[test]
+fn later_changes_are_made_on_earlier_ones(rt: HostRuntime) -> Result<(), Fail> {
+    let mut runs = PageRuns::new(rt.alloc());
+    runs.apply(&[map(8, 4, 0), map(20, 4, 40)])?;
+    runs.apply(&[unmap(0, 64), map(10, 12, 6), protect(12, 4), unmap(14, 1)])?;
+    assert_eq!(rt; first_runs(&runs), [(10, 2), (12, 2), (15, 1), (16, 6)]);
+    assert_eq!(rt; runs.get(12), Some(of_file(Perm::R, 8)));
+    assert_eq!(rt; runs.get(15), Some(of_file(Perm::R, 11)));
+    assert_eq!(rt; runs.get(20), Some(of_file(READ_WRITE, 16)));
+    Ok(())
+}
+
+#[test]
+fn runs_move_in_one_step(rt: HostRuntime) -> Result<(), Fail> {
+    let mut runs = PageRuns::new(rt.alloc());
+    runs.apply(&[map(16, 8, 16), map(28, 4, 50)])?;
+    runs.apply(&[unmap(16, 16), map(20, 8, 16), map(32, 4, 50)])?;
+    assert_eq!(rt; first_runs(&runs), [(20, 8), (32, 4), (0, 0), (0, 0)]);
+    assert_eq!(rt; runs.get(20), Some(of_file(READ_WRITE, 16)));
+    assert_eq!(rt; runs.get(35), Some(of_file(READ_WRITE, 53)));
     Ok(())
 }

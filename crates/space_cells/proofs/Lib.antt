@@ -1,0 +1,4 @@
+pub mod Seen
+pub mod Changing
+pub mod Walks
+pub mod Leasts

@@ -1,0 +1,142 @@
+-- Going over the held pages of a range, one by one.
+--     first_held      what the range of the tree shows first
+--     first_number, no_numbers      the numbers from the next held page on;  where no page is held
+--     nothing_cleared, one_more, all_cleared      pages that are let go of
+--     one_copied, all_copied      pages that are copied
+use Rattle.std.proofs.Common.{◌≡◌, ℕ, zero, suc, ◌+◌, ◌-◌, ◌<◌, ◌≤◌, Bool, true, false, cond, List, [], ◌∷◌, ◌++◌, append_assoc, refl, sym, ap, subst, ◌∙◌, arith}
+use mathlib.Core.Logic.{inl, inr}
+use Rattle.std.specs.Prelude.{Option, Some, None, IfSome}
+use Rattle.std.specs.Option.{option_map, option_or}
+use Rattle.std.specs.List.{cons_option, filter_map, range_with_len, slice_get}
+use Rattle.std.specs.Map.{lookup}
+use Rattle.std.specs.Ordering.{nat_cmp, is_gt}
+use Rattle.std.specs.declared.cmp.Ordering.TheVariants.{Less, Equal}
+use Rattle.std.specs.declared.ops.Bound.TheVariants.{Included, Excluded}
+use Rattle.std.specs.Cmp.{nat_cmp_is, ranked, unsigned_tied}
+use Rattle.std.specs.BTreeMap.{is_at}
+use Rattle.std.specs.BTreeMap.Range.{IsRangeOf, IsEntryInRange, IsLeBy}
+use Rattle.std.proofs.lemmas.Bool.{cases_eq, cases_lt, eq-eqb, ne_eqb}
+use Rattle.std.proofs.lemmas.List.{append-nil}
+use Rattle.std.proofs.lemmas.Map.Keys.{le_from_not_gt, ge_from_not_lt}
+use Rattle.page_runs.proofs.Found.{none_if}
+use Rattle.space_cells.specs.declared.held.Number.{Number}
+use Rattle.space_cells.specs.declared.held.HeldPage.{HeldPage}
+use Rattle.space_cells.specs.Held.{HeldPages, held_at, numbers_held, Clears, IsFirstHeld, Sets}
+
+not_above : (k q : ℕ) → k ≤ q → is_gt (nat_cmp k q) ≡ false
+not_above k q h = elim (cases_lt k q) [
+  | inl l ↦ ap is_gt (sym (nat_cmp_is k q Less l))
+  | inr m ↦ ap is_gt (sym (nat_cmp_is k q Equal (omega arith)))
+]
+
+pub first_held : (pages : HeldPages) (low end page : ℕ) (held : HeldPage) (r t : List (ℕ × HeldPage)) → IsRangeOf nat_cmp (Included low) (Excluded end) pages r → r ≡ (page, held) ∷ t →
+    IsFirstHeld pages low end page held.number
+first_held pages low end page held r t range step =
+    let entry : IsEntryInRange nat_cmp (Included low) (Excluded end) pages (page, held) =
+    subst (λ l. IfSome (slice_get l 0) (IsEntryInRange nat_cmp (Included low) (Excluded end) pages)) step range.1 in
+    let before : page < end = ranked page end Less (sym entry.0.1) in
+    record {
+      from = le_from_not_gt low page entry.0.0;
+      before = before;
+      there = ap (option_map (λ held. held.number)) entry.1;
+      least = λ q a b. none_if (held_at pages q) (λ some.
+          let high : q < end = omega (arith, b, before) in
+          let at : IsLeBy nat_cmp page q = subst (λ l. IfSome (slice_get l 0) (λ e. IsLeBy nat_cmp e.0 q)) step
+          (range.2 q (not_above low q a, sym (nat_cmp_is q end Less high)) some) in
+          let up : page ≤ q = le_from_not_gt page q at in omega (arith, b, up));
+    }
+
+module _ {B : Type 0} (h : ℕ → Option B) where
+  pub filter_none : (first n : ℕ) → ((q : ℕ) → first ≤ q → q < first + n → h q ≡ None) → filter_map h (range_with_len first n) ≡ []
+  filter_none first zero none = refl
+  filter_none first (suc n) none =
+      ap (λ o. cons_option o (filter_map h (range_with_len (first + 1) n))) (none first (omega arith) (omega arith))
+      ∙ filter_none (first + 1) n (λ q a b. none q (omega (arith, a)) (omega (arith, b)))
+
+  pub filter_first : (first n page : ℕ) (b : B) → first ≤ page → page < first + n → h page ≡ Some b → ((q : ℕ) → first ≤ q → q < page → h q ≡ None) →
+      filter_map h (range_with_len first n) ≡ b ∷ filter_map h (range_with_len (page + 1) (first + n - (page + 1)))
+  filter_first first zero page b low high is none = absurd (omega (arith, low, high))
+  filter_first first (suc n) page b low high is none = elim (cases_eq first page) [
+    | inl same ↦
+        let rest : n ≡ first + suc n - (page + 1) = omega (arith, same) in
+        ap (λ o. cons_option o (filter_map h (range_with_len (first + 1) n))) (ap h same ∙ is)
+        ∙ (λ i. b ∷ filter_map h (range_with_len (same i + 1) (rest i)))
+    | inr apart ↦
+        let rest : first + 1 + n - (page + 1) ≡ first + suc n - (page + 1) = omega arith in
+        ap (λ o. cons_option o (filter_map h (range_with_len (first + 1) n))) (none first (omega arith) (omega (arith, low, apart)))
+        ∙ filter_first (first + 1) n page b (omega (arith, low, apart)) (omega (arith, high)) is (λ q a c. none q (omega (arith, a)) c)
+        ∙ ap (λ k. b ∷ filter_map h (range_with_len (page + 1) k)) rest
+  ]
+
+module _ (pages : HeldPages) (next end : ℕ) where
+  -- the numbers so far, and those from the next held page on
+  pub first_number : (page : ℕ) (number : Number) → IsFirstHeld pages next end page number → (numbers : List Number) →
+      (numbers ++ number ∷ []) ++ numbers_held pages (page + 1) (end - (page + 1)) ≡ numbers ++ numbers_held pages next (end - next)
+  first_number page number at numbers =
+      let count : next + (end - next) ≡ end = omega (arith, at.from, at.before) in
+      append_assoc numbers (number ∷ []) (numbers_held pages (page + 1) (end - (page + 1)))
+      ∙ ap (λ l. numbers ++ l) (sym (
+        filter_first (λ q. option_map (λ held. held.number) (held_at pages q)) next (end - next) page number at.from (omega (arith, at.before, count)) at.there (λ q a b. ap (option_map (λ held. held.number)) (at.least q a b))
+        ∙ ap (λ k. number ∷ numbers_held pages (page + 1) (k - (page + 1))) count))
+
+  pub no_numbers : next ≤ end → ((q : ℕ) → next ≤ q → q < end → held_at pages q ≡ None) → (numbers : List Number) → numbers ++ numbers_held pages next (end - next) ≡ numbers
+  no_numbers low none numbers =
+      ap (λ l. numbers ++ l) (filter_none (λ q. option_map (λ held. held.number) (held_at pages q)) next (end - next) (λ q a b. ap (option_map (λ held. held.number)) (none q a (omega (arith, b, low)))))
+      ∙ append-nil numbers
+
+pub nothing_cleared : (first : ℕ) (pages : HeldPages) → Clears first first pages pages
+nothing_cleared first pages = record {
+  below = λ q less. refl;
+  inside = λ q low high. absurd (omega (arith, low, high));
+  above = λ q more. refl;
+}
+
+module _ (first next end : ℕ) (low : first ≤ next) (old now : HeldPages) (so_far : Clears first next old now) where
+  -- the next held page is let go of
+  pub one_more : (page : ℕ) (number : Number) (new : HeldPages) → IsFirstHeld now next end page number → Sets now new page None → Clears first (page + 1) old new
+  one_more page number new at sets = record {
+    below = λ q less. sets.others q (λ same. absurd (omega (arith, same, less, low, at.from))) ∙ so_far.below q less;
+    inside = λ q from to. elim (cases_eq q page) [
+      | inl same ↦ ap (held_at new) same ∙ sets.here
+      | inr other ↦ sets.others q other ∙ elim (cases_lt q next) [
+        | inl before ↦ so_far.inside q from before
+        | inr after ↦ at.least q after (omega (arith, to, other))
+      ]
+    ];
+    above = λ q more. sets.others q (λ same. absurd (omega (arith, same, more))) ∙ so_far.above q (omega (arith, more, at.from));
+  }
+
+  -- no other page of the range is held
+  pub all_cleared : ((q : ℕ) → next ≤ q → q < end → held_at now q ≡ None) → next ≤ end → Clears first end old now
+  all_cleared rest room = record {
+    below = so_far.below;
+    inside = λ q from to. elim (cases_lt q next) [
+      | inl before ↦ so_far.inside q from before
+      | inr after ↦ rest q after to
+    ];
+    above = λ q more. so_far.above q (omega (arith, more, room));
+  }
+
+-- the pages that are copied, and those that are left
+abbrev pub AreCopied : HeldPages → List (ℕ × HeldPage) → HeldPages → Type 0
+AreCopied copy rest pages = (q : ℕ) → option_or (held_at copy q) (lookup (is_at (nat_cmp q)) rest) ≡ held_at pages q
+
+module _ (pages copy : HeldPages) where
+  pub one_copied : (page : ℕ) (held : HeldPage) (rest : List (ℕ × HeldPage)) (copy' : HeldPages) → AreCopied copy ((page, held) ∷ rest) pages → held_at pages page ≡ Some held →
+      ((q : ℕ) → held_at copy' q ≡ cond (is_at (nat_cmp page) q) (Some held) (held_at copy q)) → AreCopied copy' rest pages
+  one_copied page held rest copy' so_far there puts q = elim (cases_eq q page) [
+    | inl same ↦
+        ap (λ o. option_or o (lookup (is_at (nat_cmp q)) rest)) (puts q ∙ ap (λ b. cond b (Some held) (held_at copy q)) (unsigned_tied page q ∙ eq-eqb page q (sym same)))
+        ∙ sym there ∙ ap (held_at pages) (sym same)
+    | inr other ↦
+        ap (λ o. option_or o (lookup (is_at (nat_cmp q)) rest)) (puts q ∙ ap (λ b. cond b (Some held) (held_at copy q)) (unsigned_tied page q ∙ ne_eqb page q (λ same. other (sym same))))
+        ∙ ap (λ b. option_or (held_at copy q) (cond b (Some held) (lookup (is_at (nat_cmp q)) rest))) (sym (unsigned_tied q page ∙ ne_eqb q page other))
+        ∙ so_far q
+  ]
+
+  pub all_copied : (rest : List (ℕ × HeldPage)) → rest ≡ [] → AreCopied copy rest pages → (q : ℕ) → held_at copy q ≡ held_at pages q
+  all_copied rest none so_far q = go (held_at copy q) ∙ ap (λ l. option_or (held_at copy q) (lookup (is_at (nat_cmp q)) l)) (sym none) ∙ so_far q
+    where
+      go : (o : Option HeldPage) → o ≡ option_or o None
+      go None = refl
+      go (Some held) = refl

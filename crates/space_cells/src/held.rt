@@ -1,0 +1,195 @@
+//! Pages that have a frame or a swap slot, by page.
+ghost use Rattle.std.specs.Prelude.{◌≡◌, ℕ, ◌+◌, ◌-◌, ◌<◌, ◌≤◌, length, Some, None, IfOk, IfSome, IfNone, IsSome, OnOk, OnErr};
+ghost use Rattle.std.specs.Option.{option_map};
+ghost use Rattle.space_cells.specs.Cells.{framed, overwritten_page, renumbered_page};
+ghost use Rattle.space_cells.specs.Held.{held_at, numbers_held, Clears, IsFirstHeld, Sets, SetsBoth};
+
+use corten_base::PageBuf;
+use std::alloc::{AllocError, Global};
+use std::collections::BTreeMap;
+
+/// The number of a frame or of a swap slot.
+#[derive(Clone, Copy, PartialEq, Eq, Debug)]
+pub enum Number {
+    /// A frame's.
+    Frame(u32),
+    /// A swap slot's.
+    Slot(u32),
+}
+
+/// A page that has a frame or a swap slot.
+#[derive(Drop)]
+pub struct HeldPage {
+    /// The number of the frame or the slot.
+    pub number: Number,
+    /// The page's bytes.
+    pub bytes: PageBuf,
+}
+
+/// The pages that have frames or slots.
+pub(crate) type HeldPages = BTreeMap<u64, HeldPage>;
+
+impl HeldPage {
+    /// The same page, with bytes of its own.
+    fn copy(&self, alloc: Global) -> Result<HeldPage, AllocError>
+        ensures { IfOk result (λ copy. copy ≡ self.now) }
+    {
+        Ok(HeldPage {
+            number: self.number,
+            bytes: self.bytes.copy(alloc)?,
+        })
+    }
+
+    /// The bytes of a page that has a frame, and none of one that has a slot.
+    pub(crate) fn frame_bytes(&self) -> &[u8]
+        ensures { result.now ≡ framed self.now.number self.now.bytes }
+    {
+        match self.number {
+            Number::Frame(_) => self.bytes.bytes(),
+            Number::Slot(_) => &[],
+        }
+    }
+
+    /// Writes bytes over those of a page that has a frame, from a place on.
+    fn write_at(&mut self, place: u32, bytes: &[u8])
+        requires { place + length bytes.now ≤ 4096 }
+        ensures { self.new ≡ overwritten_page place bytes.now self.old }
+    {
+        match self.number {
+            Number::Frame(_) => self.bytes.write_at(place, bytes),
+            Number::Slot(_) => {}
+        }
+    }
+}
+
+/// The first held page of a range, with its number.
+pub(crate) fn first_in(pages: &HeldPages, first: u64, end: u64) -> Option<(u64, Number)>
+    requires { first ≤ end }
+    ensures some { IfSome result (λ e. IsFirstHeld pages.now first end e.0 e.1) }
+    ensures none { IfNone result ((q : ℕ) → first ≤ q → q < end → held_at pages.now q ≡ None) }
+{
+    match pages.range(first..end).next() {
+        Some((page, held)) => Some((*page, held.number)),
+        None => None,
+    }
+}
+
+/// Holds a page, which may be held.
+pub(crate) fn put(
+    pages: &mut HeldPages,
+    page: u64,
+    held: HeldPage,
+) -> Result<Option<HeldPage>, AllocError>
+    ensures old { IfOk result (λ old. old ≡ held_at pages.old page) }
+    ensures ok { OnOk result (Sets pages.old pages.new page (Some held)) }
+    ensures absent { OnErr result (held_at pages.old page ≡ None) }
+    ensures err { OnErr result ((q : ℕ) → held_at pages.new q ≡ held_at pages.old q) }
+{
+    Ok(pages.insert(page, held)?)
+}
+
+/// Lets go of a page.
+pub(crate) fn take(pages: &mut HeldPages, page: u64) -> Option<HeldPage>
+    ensures old { result ≡ held_at pages.old page }
+    ensures pages { Sets pages.old pages.new page None }
+{
+    pages.remove(&page)
+}
+
+/// Holds a page that is held as it was before.
+fn restore(pages: &mut HeldPages, page: u64, old: Option<HeldPage>)
+    requires { IsSome (held_at pages.old page) }
+    ensures { Sets pages.old pages.new page old }
+{
+    match old {
+        Some(held) => match put(pages, page, held) {
+            Ok(_) => {}
+            Err(_) => unreachable!(),
+        },
+        None => {
+            let _ = take(pages, page);
+        }
+    }
+}
+
+/// Holds two pages, or none.
+pub(crate) fn put_both(
+    pages: &mut HeldPages,
+    near: (u64, HeldPage),
+    far: (u64, HeldPage),
+) -> Result<(), AllocError>
+    ensures ok { OnOk result (SetsBoth pages.old pages.new near far) }
+    ensures err { OnErr result ((q : ℕ) → held_at pages.new q ≡ held_at pages.old q) }
+{
+    let (first, held) = near;
+    let (second, other) = far;
+    let old = put(pages, first, held)?;
+    match put(pages, second, other) {
+        Ok(_) => Ok(()),
+        Err(wanting) => {
+            restore(pages, first, old);
+            Err(wanting)
+        }
+    }
+}
+
+/// Gives a held page another number.
+pub(crate) fn renumber(pages: &mut HeldPages, page: u64, number: Number)
+    ensures { Sets pages.old pages.new page (option_map (renumbered_page number) (held_at pages.old page)) }
+{
+    if let Some(held) = pages.get_mut(&page) {
+        held.number = number;
+    }
+}
+
+/// Writes bytes over those of a page that has a frame, from a place on.
+pub(crate) fn write(pages: &mut HeldPages, page: u64, place: u32, bytes: &[u8])
+    requires { place + length bytes.now ≤ 4096 }
+    ensures { Sets pages.old pages.new page (option_map (overwritten_page place bytes.now) (held_at pages.old page)) }
+{
+    if let Some(held) = pages.get_mut(&page) {
+        held.write_at(place, bytes);
+    }
+}
+
+/// The numbers of the held pages of a range, in the order of the pages.
+pub(crate) fn numbers(
+    alloc: Global,
+    pages: &HeldPages,
+    first: u64,
+    end: u64,
+) -> Result<Vec<Number>, AllocError>
+    requires { first ≤ end }
+    ensures { IfOk result (λ numbers. numbers.items ≡ numbers_held pages.now first (end - first)) }
+{
+    let mut numbers = Vec::new(alloc);
+    let mut next = first;
+    while let Some((page, number)) = first_in(pages, next, end) {
+        numbers.push(number)?;
+        next = page + 1;
+    }
+    Ok(numbers)
+}
+
+/// Lets go of the pages of a range.
+pub(crate) fn clear(pages: &mut HeldPages, first: u64, end: u64)
+    requires { first ≤ end }
+    ensures { Clears first end pages.old pages.new }
+{
+    let mut next = first;
+    while let Some((page, _)) = first_in(pages, next, end) {
+        let _ = take(pages, page);
+        next = page + 1;
+    }
+}
+
+/// The same pages, each with bytes of its own.
+pub(crate) fn copy_all(alloc: Global, pages: &HeldPages) -> Result<HeldPages, AllocError>
+    ensures { IfOk result (λ copy. (q : ℕ) → held_at copy q ≡ held_at pages.now q) }
+{
+    let mut copy = BTreeMap::new(alloc);
+    for (page, held) in pages.iter() {
+        copy.insert(*page, held.copy(alloc)?)?;
+    }
+    Ok(copy)
+}

@@ -1,0 +1,13 @@
+//! The cells of one space: what stands at its pages, kept as runs of pages that go on from one another, and over some of
+//! them the pages that have a frame or a swap slot. Each call costs what its edges, the runs and the held pages between
+//! them cost.
+#![tactic(auto)]
+
+mod held;
+mod pages;
+mod ranges;
+mod space;
+
+pub use held::{HeldPage, Number};
+pub use page_runs::{Mark, Run};
+pub use space::{AddressSpace, PageView};

@@ -1,0 +1,70 @@
+//! Ranges of pages that are mapped, unmapped and protected, and copies of a space.
+ghost use Rattle.std.specs.Prelude.{◌≡◌, ◌+◌, ◌-◌, ◌<◌, ◌^◌, Some, None, IfOk, OnOk, OnErr};
+ghost use Rattle.std.specs.Option.{option_map};
+ghost use Rattle.page_map.specs.Cell.{with_perm};
+ghost use Rattle.page_map.specs.Change.{change};
+ghost use Rattle.page_map.specs.Mapping.{backed};
+ghost use Rattle.page_runs.specs.Mark.{index_of};
+ghost use Rattle.space_cells.specs.Cells.{numbers_in};
+
+use crate::held::{Number, clear, copy_all, numbers};
+use crate::space::AddressSpace;
+use corten_base::Perm;
+use page_runs::Run;
+use std::alloc::{AllocError, Global};
+
+impl AddressSpace {
+    /// Maps pages, which take the place of what was there, and answers the numbers of the frames and slots that they had.
+    pub fn map(&mut self, alloc: Global, run: Run) -> Result<Vec<Number>, AllocError>
+        requires some { 0 < run.count }
+        requires pages { run.first + run.count < 2 ^ 64 }
+        requires indexes { index_of run.mark.backing + run.count < 2 ^ 64 }
+        ensures released { IfOk result (λ released. released.items ≡ numbers_in self.old run.first run.count) }
+        ensures ok { OnOk result (self.new ≡ change self.old run.first run.count (λ page _. Some (backed run.mark.backing run.mark.perm (page - run.first)))) }
+        ensures err { OnErr result (self.new ≡ self.old) }
+    {
+        let end = run.first + run.count;
+        let released = numbers(alloc, &self.pages, run.first, end)?;
+        self.marks.replace(run)?;
+        clear(&mut self.pages, run.first, end);
+        Ok(released)
+    }
+
+    /// Unmaps pages, and answers the numbers of the frames and slots that they had.
+    pub fn unmap(
+        &mut self,
+        alloc: Global,
+        first: u64,
+        count: u64,
+    ) -> Result<Vec<Number>, AllocError>
+        requires { first + count < 2 ^ 64 }
+        ensures released { IfOk result (λ released. released.items ≡ numbers_in self.old first count) }
+        ensures ok { OnOk result (self.new ≡ change self.old first count (λ _ _. None)) }
+        ensures err { OnErr result (self.new ≡ self.old) }
+    {
+        let end = first + count;
+        let released = numbers(alloc, &self.pages, first, end)?;
+        self.marks.remove(first, count)?;
+        clear(&mut self.pages, first, end);
+        Ok(released)
+    }
+
+    /// Gives the pages of a range that have cells other permissions.
+    pub fn protect(&mut self, first: u64, count: u64, perm: Perm) -> Result<(), AllocError>
+        requires { first + count < 2 ^ 64 }
+        ensures ok { OnOk result (self.new ≡ change self.old first count (λ _. option_map (with_perm perm))) }
+        ensures err { OnErr result (self.new ≡ self.old) }
+    {
+        self.marks.protect(first, count, perm)
+    }
+
+    /// The same cells once more, with bytes of their own.
+    pub fn copy(&self, alloc: Global) -> Result<AddressSpace, AllocError>
+        ensures { IfOk result (λ copy. copy ≡ self.now) }
+    {
+        Ok(AddressSpace {
+            marks: self.marks.copy()?,
+            pages: copy_all(alloc, &self.pages)?,
+        })
+    }
+}
