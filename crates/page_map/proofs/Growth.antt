@@ -142,7 +142,7 @@ fewer_listed (k ∷ ps) p =
     ∙ ap (λ b. cond (p k) (cond b (set.len (set.retain s p)) (set.len (set.retain s p) + 1)) (set.len (set.retain s p))) kept in
     omega (arith, all, len-insert place_total s k, fewer (p k) (set.contains s k) (set.len (set.retain s p)) (set.len s) (fewer_listed ps p))
 
-listed : (tables : Tables) → set.from_list {R = place_cmp} (set.items tables) ≡ tables
+pub listed : (tables : Tables) → set.from_list {R = place_cmp} (set.items tables) ≡ tables
 listed tables = same_set place_total place_exact _ _ (λ q. contains-from_list place_total (set.items tables) q ∙ sym (set.contains-items tables q))
 
 pub fewer_left : (is_given_up : Place → Bool) (tables : Tables) → set.len (changed_tables is_given_up [] tables) ≤ set.len tables

@@ -38,3 +38,5 @@ pub mod Apart
 pub mod Freed
 pub mod Written
 pub mod Replies
+pub mod Bounds
+pub mod GivenUp

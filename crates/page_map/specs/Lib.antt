@@ -8,6 +8,7 @@ pub mod Mapping
 pub mod Swap
 pub mod Spaces
 pub mod Effect
+pub mod Counts
 pub mod Step
 pub mod History
 pub mod StateCode

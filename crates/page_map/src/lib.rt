@@ -2,6 +2,7 @@
 #![tactic(auto)]
 
 mod cell;
+mod count_laws;
 mod history_laws;
 mod laws;
 mod memory_laws;
@@ -9,6 +10,10 @@ mod space_laws;
 mod worked_scripts;
 
 pub use cell::Cell;
+pub use count_laws::{
+    a_number_has_at_most_one_owner_in_each_space, a_space_has_at_most_one_page_for_each_number,
+    tables_change_by_what_is_needed_and_given_up,
+};
 pub use history_laws::{
     a_history_is_legal_part_by_part, a_history_keeps_the_facts, replies_follow_from_the_calls,
 };
