@@ -81,8 +81,7 @@ module _ (cells : AddressSpace) (thread known first : ℕ) (is : first ≡ arena
       (first ≤ page) × (page < first + 2 ^ 27) × IsFull cells thread (page - first) × (get cells page ≡ None)
   full_up_to page e =
       let at = least_passes (first + known) (first + 2 ^ 27 - (first + known)) (λ page. is_none (get cells page)) page e in
-      let within : page < first + 2 ^ 27 = omega (arith, at.0, at.1, full.within) in
-      (
+      let within : page < first + 2 ^ 27 = omega (arith, at.0, at.1, full.within) in (
         omega (arith, at.0),
         within,
         record {
