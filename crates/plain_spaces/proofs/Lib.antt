@@ -10,6 +10,7 @@ pub mod Made
 pub mod Followed
 pub mod Held
 pub mod Released
+pub mod Changed
 pub mod Files
 pub mod Nexts
 pub mod Keys

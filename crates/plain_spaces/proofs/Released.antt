@@ -79,16 +79,16 @@ module _ (kind : Number → Option ℕ) (cells : AddressSpace) (n : ℕ) where
       omega (arith, here, front first k, quiet k (first + 1) (λ q a b. none q (omega (arith, a)) (omega (arith, b))))
 
 -- the numbers of a kind are those of cells
-abbrev Agree : (Number → Option ℕ) → (Cell → Option ℕ) → Type 0
+abbrev pub Agree : (Number → Option ℕ) → (Cell → Option ℕ) → Type 0
 Agree kind cell_number = (c : Cell) (n : ℕ) → one_at (cell_number c) n ≡ option_map_or (λ number. one_at (kind number) n) (number_of c) 0
 
-frames_agree : Agree frame_in frame_of
+pub frames_agree : Agree frame_in frame_of
 frames_agree (Anon perm) n = refl
 frames_agree (File perm file index) n = refl
 frames_agree (Mapped perm frame bytes) n = refl
 frames_agree (Swapped perm slot bytes) n = refl
 
-slots_agree : Agree slot_in slot_of
+pub slots_agree : Agree slot_in slot_of
 slots_agree (Anon perm) n = refl
 slots_agree (File perm file index) n = refl
 slots_agree (Mapped perm frame bytes) n = refl

@@ -8,7 +8,6 @@ mod adding;
 mod committing;
 mod forgetting;
 mod judge;
-mod make;
 mod need;
 mod operation;
 mod pieces;
