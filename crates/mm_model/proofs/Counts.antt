@@ -40,12 +40,5 @@ zeros_from f h low (suc n) = (λ i. h low i ∷ zeros_from f h (low + 1) n i)
 pub no_owners : (f : ℕ → ℕ) (n : ℕ) → ((k : ℕ) → f k ≡ 0) → replicate n 0 ≡ owner_counts f n
 no_owners f n h = sym (zeros_from f h 0 n)
 
--- the numbers that have no owner are those of count 0
-pub unused_counts : (f : ℕ → ℕ) (limit : ℕ) (counts : List ℕ) → counts ≡ owner_counts f limit → unused_of counts ≡ unused f limit
-unused_counts f limit counts e =
-    ap unused_of e
-    ∙ ap (λ n. filter (λ k. nat_eq (get_or (owner_counts f limit) k 0) 0) (range_with_len 0 n)) (length-map-range_with_len f 0 limit)
-    ∙ same_filter _ _ 0 limit (λ m a b. ap (λ x. nat_eq x 0) (get_or-map-range_with_len f 0 limit m m 0 (omega (arith, b)) (omega arith)))
-
 pub unused_fit : (f : ℕ → ℕ) (limit : ℕ) (counts : List ℕ) → counts ≡ owner_counts f limit → length (unused_of counts) ≤ limit
 unused_fit f limit counts e = omega (arith, length-unused counts, ap length e, length-map-range_with_len f 0 limit)
