@@ -13,7 +13,7 @@ use Rattle.page_map.proofs.Owners.{same_some}
 use Rattle.page_map.proofs.Steps.{not_none}
 use Rattle.plain_counts.specs.declared.counts.Counts.{Counts}
 use Rattle.space_cells.specs.declared.held.Number.{Number}
-use Rattle.space_cells.specs.Cells.{number_of, number_at}
+use Rattle.space_cells.specs.Cells.{number_of, number_at, numbered_page}
 use Rattle.plain_spaces.specs.declared.swap.Move.{Move}
 use Rattle.plain_spaces.specs.Swapping.{moves, passes}
 
@@ -46,19 +46,16 @@ pub record IsNextHeld (cells : AddressSpace) (next end page : ℕ) (number : Num
   pub there : number_at cells page ≡ Some number
   pub before : (q : ℕ) → next ≤ q → q < page → number_at cells q ≡ None
 
-abbrev pub found : AddressSpace → ℕ → Option (ℕ × Number)
-found cells page = option_map (λ number. (page, number)) (number_at cells page)
-
-none_found : (cells : AddressSpace) (q : ℕ) → found cells q ≡ None → number_at cells q ≡ None
+none_found : (cells : AddressSpace) (q : ℕ) → numbered_page cells q ≡ None → number_at cells q ≡ None
 none_found cells q e = go (number_at cells q) e
   where
     go : (o : Option Number) → ◌≡◌ {A = Option (ℕ × Number)} (option_map (λ number. (q, number)) o) None → o ≡ None
     go None e = refl
     go (Some n) e = absurd (not_none e)
 
-pub is_next_held : (cells : AddressSpace) (next end page : ℕ) (number : Number) → next ≤ end → Some (page, number) ≡ earliest next (end - next) (found cells) → IsNextHeld cells next end page number
+pub is_next_held : (cells : AddressSpace) (next end page : ℕ) (number : Number) → next ≤ end → Some (page, number) ≡ earliest next (end - next) (numbered_page cells) → IsNextHeld cells next end page number
 is_next_held cells next end page number room e =
-    let at = first_answer (found cells) next (end - next) (page, number) (sym e) in
+    let at = first_answer (numbered_page cells) next (end - next) (page, number) (sym e) in
     let both = go (number_at cells at.0) refl at.1.2 in
     record {
       low = omega (arith, at.1.0, both.0);
@@ -71,8 +68,8 @@ is_next_held cells next end page number room e =
     go None is e = absurd (not_none (sym e))
     go (Some n) is e = let same = same_some e in (ap (λ p. p.0) same, is ∙ ap (λ p. Some p.1) same)
 
-pub no_next_held : (cells : AddressSpace) (next end : ℕ) → None ≡ earliest next (end - next) (found cells) → (q : ℕ) → next ≤ q → q < end → number_at cells q ≡ None
-no_next_held cells next end e q a b = none_found cells q (unanswered (found cells) next (end - next) (sym e) q a (omega (arith, a, b)))
+pub no_next_held : (cells : AddressSpace) (next end : ℕ) → None ≡ earliest next (end - next) (numbered_page cells) → (q : ℕ) → next ≤ q → q < end → number_at cells q ≡ None
+no_next_held cells next end e q a b = none_found cells q (unanswered (numbered_page cells) next (end - next) (sym e) q a (omega (arith, a, b)))
 
 -- a page without a number doesn't move
 pub quiet_at : (way : Move) (counts : Counts) (cells : AddressSpace) (q : ℕ) → number_at cells q ≡ None → IfSome (get cells q) (λ c. passes way counts c ≡ false)

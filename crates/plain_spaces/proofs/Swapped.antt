@@ -1,5 +1,5 @@
 -- One page more that moves to swap or back.
-use Rattle.std.proofs.Common.{◌≡◌, ℕ, ◌+◌, ◌-◌, ◌<◌, ◌≤◌, Bool, true, false, cond, List, [], ◌∷◌, length, refl, sym, ap, subst, ◌∙◌, arith}
+use Rattle.std.proofs.Common.{◌≡◌, ℕ, suc, ◌+◌, ◌-◌, ◌<◌, ◌≤◌, Bool, true, false, cond, List, [], ◌∷◌, length, refl, sym, ap, subst, ◌∙◌, arith}
 use mathlib.Core.Bool.{true≢false}
 use mathlib.Core.Logic.{◌⊎◌, inl, inr}
 use Rattle.std.specs.Prelude.{Option, Some, None, IfSome, nat_eq, slice_index}
@@ -25,14 +25,15 @@ use Rattle.plain_counts.specs.declared.counts.Counts.{Counts}
 use Rattle.plain_counts.specs.Counts.{carried, one_at, AreCounted, IsCounted, Leaves, Follows, Follow}
 use Rattle.space_cells.specs.declared.held.Number.{Number}
 use Rattle.space_cells.specs.declared.held.Number.TheVariants.{Frame, Slot}
-use Rattle.space_cells.specs.Cells.{number_of, renumbered}
+use Rattle.space_cells.specs.Cells.{number_of, number_at, renumbered}
 use Rattle.plain_spaces.specs.Numbers.{IsCarried, Leave}
 use Rattle.plain_spaces.specs.Swapping.{moves, passes, to, numbered, gets_of, loses_of, taken, left, Takes, TakesNumber, Moves, Stays, Settles, SwapsAt, MovesAt}
 use Rattle.plain_spaces.specs.declared.swap.Move.{Move}
 use Rattle.plain_spaces.specs.declared.swap.Move.TheVariants.{Out, In}
 use Rattle.plain_spaces.proofs.Moves.{change_one, put_back, counts_once, carried_insert}
 use Rattle.plain_spaces.proofs.Plans.{has_count}
-use Rattle.plain_spaces.proofs.Keys.{keys_here, keys_alike}
+use Rattle.plain_spaces.proofs.Held.{IsNextHeld, quiet_at, cell_at}
+use Rattle.plain_spaces.proofs.Keys.{keys_past, keys_here, keys_alike}
 use Rattle.plain_spaces.proofs.Swaps.{to_do, to_do_stays, to_do_moves}
 
 module _ (to : ℕ → Cell → Cell) (number_of : Cell → Option ℕ) (passes passes' : Cell → Bool) (page end : ℕ) (cells cells' : AddressSpace) (taken taken' gone gone' : List ℕ)
@@ -54,9 +55,9 @@ module _ (to : ℕ → Cell → Cell) (number_of : Cell → Option ℕ) (passes 
   other_tests n e = ap (λ m. keys_in m (page + 1) (end - (page + 1)) passes') e ∙ keys_alike passes passes' cells cells (page + 1) (end - (page + 1)) (λ k a b. refl) (λ k x a b at. tests k x (omega (arith, a)) at)
 
   -- what is left to be done is the same
-  pub still_left : to_do to passes cells page end (unused_of taken) ≡ to_do to passes' cells' (page + 1) end (unused_of taken')
+  pub still_to_do : to_do to passes cells page end (unused_of taken) ≡ to_do to passes' cells' (page + 1) end (unused_of taken')
   unfolding to_do rest
-  still_left = go (passes s.cell) refl s.settles
+  still_to_do = go (passes s.cell) refl s.settles
     where
       go : (b : Bool) → passes s.cell ≡ b → Settles to number_of b s.cell s.after taken taken' gone gone' → to_do to passes cells page end (unused_of taken) ≡ to_do to passes' cells' (page + 1) end (unused_of taken')
       go false e stays =
@@ -98,13 +99,39 @@ some_left passes cells page end cell numbers high here enough moves =
     let rest = keys_in cells (page + 1) (end - (page + 1)) passes in
     omega (arith, enough, ap length (keys_here passes cells page end cell high here ∙ ap (λ b. cond b (page ∷ rest) rest) moves))
 
-pub some_left_at : (passes : Cell → Bool) (cells : AddressSpace) (page end : ℕ) (numbers : List ℕ) → page < end → length (keys_in cells page (end - page) passes) ≤ length numbers →
-    IfSome (get cells page) (λ c. passes c ≡ true → 0 < length numbers)
-some_left_at passes cells page end numbers high enough = go (get cells page) refl
+pub number_left : (way : Move) (counts : Counts) (cells : AddressSpace) (page end : ℕ) (number : Number) (numbers : List ℕ) → page < end → number_at cells page ≡ Some number →
+    length (keys_in cells page (end - page) (passes way counts)) ≤ length numbers → moves way counts number ≡ true → 0 < length numbers
+number_left way counts cells page end number numbers high there enough goes =
+    let at = cell_at cells page number there in
+    some_left (passes way counts) cells page end at.0 numbers high at.1.0 enough (ap (λ o. option_map_or (moves way counts) o false) at.1.1 ∙ goes)
+
+-- how many pages move, counted from the front
+pub counted_next : (way : Move) (counts : Counts) (cells : AddressSpace) (next end page : ℕ) (number : Number) (at : IsNextHeld cells next end page number) →
+    length (keys_in cells next (end - next) (passes way counts)) ≡ cond (moves way counts number) 1 0 + length (keys_in cells (page + 1) (end - (page + 1)) (passes way counts))
+counted_next way counts cells next end page number at =
+    let here = cell_at cells page number at.there in
+    ap length (keys_past (passes way counts) cells next page end at.low (omega (arith, at.high)) (λ q a b. quiet_at way counts cells q (at.before q a b)))
+    ∙ ap length (keys_here (passes way counts) cells page end here.0 at.high here.1.0)
+    ∙ each (passes way counts here.0)
+    ∙ ap (λ o. cond (option_map_or (moves way counts) o false) 1 0 + length (keys_in cells (page + 1) (end - (page + 1)) (passes way counts))) here.1.1
   where
-    go : (o : Option Cell) → get cells page ≡ o → IfSome o (λ c. passes c ≡ true → 0 < length numbers)
-    go None e = tt
-    go (Some c) e = λ moves. some_left passes cells page end c numbers high e enough moves
+    each : (b : Bool) → length (cond b (page ∷ keys_in cells (page + 1) (end - (page + 1)) (passes way counts)) (keys_in cells (page + 1) (end - (page + 1)) (passes way counts)))
+        ≡ cond b 1 0 + length (keys_in cells (page + 1) (end - (page + 1)) (passes way counts))
+    each true = one (length (keys_in cells (page + 1) (end - (page + 1)) (passes way counts)))
+      where
+        one : (n : ℕ) → suc n ≡ 1 + n
+        one n = omega arith
+    each false = none (length (keys_in cells (page + 1) (end - (page + 1)) (passes way counts)))
+      where
+        none : (n : ℕ) → n ≡ 0 + n
+        none n = omega arith
+
+pub one_at_most : (way : Move) (counts : Counts) (number : Number) → cond (moves way counts number) 1 0 ≤ 1
+one_at_most way counts number = go (moves way counts number)
+  where
+    go : (b : Bool) → cond b 1 0 ≤ 1
+    go true = omega arith
+    go false = omega arith
 
 -- ---- counts of owners
 

@@ -43,8 +43,7 @@ LeavesAny (Some number) old new = Leave number old new
 
 -- one key more
 abbrev pub Join : Number → Counts → Counts → Type 0
-Join (Frame n) old new = Leaves (Some n) new.frames old.frames × (new.slots ≡ old.slots)
-Join (Slot n) old new = Leaves (Some n) new.slots old.slots × (new.frames ≡ old.frames)
+Join number old new = Leave number new old
 
 -- how often the list has the number n of a kind
 abbrev pub times : (Number → Option ℕ) → List Number → ℕ → ℕ
