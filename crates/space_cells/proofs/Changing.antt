@@ -1,9 +1,11 @@
 -- The cells of a space after what stands at the pages of a range has changed.
 --     by_range      a range of pages that changes, and pages that stay
+--     backed_on, over_protected      a mark that goes on;  a mark with other permissions
 --     after_one      a page that holds something else
+--     cleared_at, cleared_cells      pages that are let go of
 --     mapped_cells, unmapped_cells, protected_cells      the pages of a range that are mapped, unmapped and protected;  with .._have_marks, that what is held still lies over marks
 --     held_cells, renumbered_cells, overwritten_cells, let_go_cells      one page that is held, gets another number, is written, and is let go
-use Rattle.std.proofs.Common.{◌≡◌, ◌≢◌, ℕ, ◌+◌, ◌-◌, ◌<◌, ◌≤◌, Bool, true, false, cond, List, refl, sym, ap, ◌∙◌, arith}
+use Rattle.std.proofs.Common.{◌≡◌, ◌≢◌, ℕ, ◌+◌, ◌-◌, Bool, true, false, cond, List, refl, sym, ap, ◌∙◌, arith}
 use mathlib.Core.Bool.{true≢false}
 use mathlib.Core.Logic.{◌⊎◌, inl, inr}
 use Rattle.std.specs.Prelude.{Option, Some, None, IfSome, IfNone, IsSome, is_some, Result, Ok, Err, OnOk, OnErr}
@@ -30,6 +32,31 @@ use Rattle.space_cells.specs.declared.held.HeldPage.{HeldPage}
 use Rattle.space_cells.specs.Held.{HeldPages, held_at, Clears, Sets}
 use Rattle.space_cells.specs.Cells.{HaveMarks, LetsGo, cell_of, cells_of, numbered, overwritten, overwritten_page, renumbered, renumbered_page, with_held, written_under}
 use Rattle.space_cells.proofs.Seen.{get_cells, over, perm_of_cell, same_cells}
+
+-- a mark that goes on stands for a later page of the mapping
+pub backed_on : (backing : Backing) (perm : Perm) (i : ℕ) → backed (backing_after backing i) perm 0 ≡ backed backing perm i
+backed_on backing.Zero perm i = refl
+backed_on (backing.File file index) perm i = ap (λ k. File perm file k) (same (index + i))
+  where
+    same : (k : ℕ) → k + 0 ≡ k
+    same k = omega arith
+
+-- a mark's permissions are the cell's, also where a page is held
+pub over_protected : (perm : Perm) (h : Option HeldPage) (o : Option Mark) → over h (option_map (with_perm perm) o) ≡ option_map (cell.with_perm perm) (over h o)
+over_protected perm h None = refl
+over_protected perm h (Some mark) = ap Some (both h mark)
+  where
+    unheld : (backing : Backing) (old : Perm) → backed backing perm 0 ≡ cell.with_perm perm (backed backing old 0)
+    unheld backing.Zero old = refl
+    unheld (backing.File file index) old = refl
+
+    held : (number : Number) (bytes : List ℕ) (old : Perm) → numbered perm number bytes ≡ cell.with_perm perm (numbered old number bytes)
+    held (Frame frame) bytes old = refl
+    held (Slot slot) bytes old = refl
+
+    both : (h : Option HeldPage) (mark : Mark) → cell_of (with_perm perm mark) h ≡ cell.with_perm perm (cell_of mark h)
+    both None mark = unheld mark.backing mark.perm
+    both (Some page) mark = held page.number page.bytes mark.perm
 
 module _ (marks marks' : Marks) (pages pages' : HeldPages) where
   -- a range that changes, and pages that stay
@@ -168,31 +195,32 @@ module _ (marks : Marks) (pages pages' : HeldPages) (first count : ℕ) (clears 
   inside_cleared : (q : ℕ) → within first count q ≡ true → held_at pages' q ≡ None
   inside_cleared q w = clears.inside q (inside first count q w).0 (inside first count q w).1
 
+  -- no page of the range is held, and the others are as before
+  pub cleared_at : (q : ℕ) → held_at pages' q ≡ cond (within first count q) None (held_at pages q)
+  cleared_at q = go (within first count q) refl
+    where
+      go : (b : Bool) → within first count q ≡ b → held_at pages' q ≡ cond b None (held_at pages q)
+      go true w = inside_cleared q w
+      go false w = outside_cleared q w
+
   -- a range whose marks change, and where nothing is held any more
   pub cleared_cells : (new : ℕ → Option Mark → Option Mark) (f : ℕ → Option Cell → Option Cell) →
       ((q : ℕ) (h : Option HeldPage) (o : Option Mark) → over None (new q o) ≡ f q (over h o)) → cells_of (change marks first count new) pages' ≡ change (cells_of marks pages) first count f
   cleared_cells new f is = by_range marks (change marks first count new) pages pages' first count f
       (λ q w.
-          ap (λ h. over h (get (change marks first count new) q)) (inside_cleared q w)
-          ∙ ap (over None) (get-change marks first count new q ∙ ap (λ b. cond b (new q (get marks q)) (get marks q)) w)
-          ∙ is q (held_at pages q) (get marks q))
+      ap (λ h. over h (get (change marks first count new) q)) (inside_cleared q w)
+      ∙ ap (over None) (get-change marks first count new q ∙ ap (λ b. cond b (new q (get marks q)) (get marks q)) w)
+      ∙ is q (held_at pages q) (get marks q))
       (λ q w.
-          ap (λ h. over h (get (change marks first count new) q)) (outside_cleared q w)
-          ∙ ap (over (held_at pages q)) (get-change marks first count new q ∙ ap (λ b. cond b (new q (get marks q)) (get marks q)) w))
+      ap (λ h. over h (get (change marks first count new) q)) (outside_cleared q w)
+      ∙ ap (over (held_at pages q)) (get-change marks first count new q ∙ ap (λ b. cond b (new q (get marks q)) (get marks q)) w))
 
   pub unmapped_cells : cells_of (unmapped marks first count) pages' ≡ change (cells_of marks pages) first count (λ _ _. None)
   unmapped_cells = cleared_cells (λ _ _. None) (λ _ _. None) (λ q h o. refl)
 
   pub mapped_cells : (mark : Mark) → cells_of (mapped marks first count mark) pages' ≡ change (cells_of marks pages) first count (λ page _. Some (backed mark.backing mark.perm (page - first)))
   mapped_cells mark = cleared_cells (λ page _. Some (goes_on mark (page - first))) (λ page _. Some (backed mark.backing mark.perm (page - first)))
-      (λ q h o. ap Some (on mark.backing mark.perm (q - first)))
-    where
-      on : (backing : Backing) (perm : Perm) (i : ℕ) → backed (backing_after backing i) perm 0 ≡ backed backing perm i
-      on backing.Zero perm i = refl
-      on (backing.File file index) perm i = ap (λ k. File perm file k) (same (index + i))
-        where
-          same : (k : ℕ) → k + 0 ≡ k
-          same k = omega arith
+      (λ q h o. ap Some (backed_on mark.backing mark.perm (q - first)))
 
   -- what is held still lies over marks
   pub cleared_have_marks : (new : ℕ → Option Mark → Option Mark) → HaveMarks marks pages → HaveMarks (change marks first count new) pages'
@@ -212,27 +240,11 @@ module _ (marks : Marks) (pages : HeldPages) (first count : ℕ) (perm : Perm) w
   -- other permissions, also where a page is held
   pub protected_cells : cells_of (protected marks first count perm) pages ≡ change (cells_of marks pages) first count (λ _. option_map (cell.with_perm perm))
   protected_cells = by_range marks (protected marks first count perm) pages pages first count (λ _. option_map (cell.with_perm perm))
-      (λ q w. ap (over (held_at pages q)) (seen q ∙ ap (λ b. cond b (option_map (with_perm perm) (get marks q)) (get marks q)) w) ∙ go (held_at pages q) (get marks q))
+      (λ q w. ap (over (held_at pages q)) (seen q ∙ ap (λ b. cond b (option_map (with_perm perm) (get marks q)) (get marks q)) w) ∙ over_protected perm (held_at pages q) (get marks q))
       (λ q w. ap (over (held_at pages q)) (seen q ∙ ap (λ b. cond b (option_map (with_perm perm) (get marks q)) (get marks q)) w))
     where
       seen : (q : ℕ) → get (protected marks first count perm) q ≡ cond (within first count q) (option_map (with_perm perm) (get marks q)) (get marks q)
       seen q = get-change marks first count (λ _. option_map (with_perm perm)) q
-
-      unheld : (backing : Backing) (old : Perm) → backed backing perm 0 ≡ cell.with_perm perm (backed backing old 0)
-      unheld backing.Zero old = refl
-      unheld (backing.File file index) old = refl
-
-      held : (number : Number) (bytes : List ℕ) (old : Perm) → numbered perm number bytes ≡ cell.with_perm perm (numbered old number bytes)
-      held (Frame frame) bytes old = refl
-      held (Slot slot) bytes old = refl
-
-      both : (h : Option HeldPage) (mark : Mark) → cell_of (with_perm perm mark) h ≡ cell.with_perm perm (cell_of mark h)
-      both None mark = unheld mark.backing mark.perm
-      both (Some page) mark = held page.number page.bytes mark.perm
-
-      go : (h : Option HeldPage) (o : Option Mark) → over h (option_map (with_perm perm) o) ≡ option_map (cell.with_perm perm) (over h o)
-      go h None = refl
-      go h (Some mark) = ap Some (both h mark)
 
   pub protected_have_marks : HaveMarks marks pages → HaveMarks (protected marks first count perm) pages
   protected_have_marks have q some = ap is_some (get-change marks first count (λ _. option_map (with_perm perm)) q) ∙ go (within first count q) (get marks q) ∙ have q some

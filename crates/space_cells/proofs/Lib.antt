@@ -2,3 +2,4 @@ pub mod Seen
 pub mod Changing
 pub mod Walks
 pub mod Leasts
+pub mod Released

@@ -1,6 +1,6 @@
 -- Going over the held pages of a range, one by one.
 --     first_held      what the range of the tree shows first
---     first_number, no_numbers      the numbers from the next held page on;  where no page is held
+--     next_given, none_given, first_number, no_numbers      the numbers from the next held page on;  where no page is held
 --     nothing_cleared, one_more, all_cleared      pages that are let go of
 --     one_copied, all_copied      pages that are copied
 use Rattle.std.proofs.Common.{◌≡◌, ℕ, zero, suc, ◌+◌, ◌-◌, ◌<◌, ◌≤◌, Bool, true, false, cond, List, [], ◌∷◌, ◌++◌, append_assoc, refl, sym, ap, subst, ◌∙◌, arith}
@@ -17,11 +17,11 @@ use Rattle.std.specs.BTreeMap.{is_at}
 use Rattle.std.specs.BTreeMap.Range.{IsRangeOf, IsEntryInRange, IsLeBy}
 use Rattle.std.proofs.lemmas.Bool.{cases_eq, cases_lt, eq-eqb, ne_eqb}
 use Rattle.std.proofs.lemmas.List.{append-nil}
-use Rattle.std.proofs.lemmas.Map.Keys.{le_from_not_gt, ge_from_not_lt}
+use Rattle.std.proofs.lemmas.Map.Keys.{le_from_not_gt}
 use Rattle.page_runs.proofs.Found.{none_if}
 use Rattle.space_cells.specs.declared.held.Number.{Number}
 use Rattle.space_cells.specs.declared.held.HeldPage.{HeldPage}
-use Rattle.space_cells.specs.Held.{HeldPages, held_at, numbers_held, Clears, IsFirstHeld, Sets}
+use Rattle.space_cells.specs.Held.{HeldPages, held_at, number_held, numbers_held, Clears, IsFirstHeld, Sets}
 
 not_above : (k q : ℕ) → k ≤ q → is_gt (nat_cmp k q) ≡ false
 not_above k q h = elim (cases_lt k q) [
@@ -53,36 +53,53 @@ module _ {B : Type 0} (h : ℕ → Option B) where
       ap (λ o. cons_option o (filter_map h (range_with_len (first + 1) n))) (none first (omega arith) (omega arith))
       ∙ filter_none (first + 1) n (λ q a b. none q (omega (arith, a)) (omega (arith, b)))
 
-  pub filter_first : (first n page : ℕ) (b : B) → first ≤ page → page < first + n → h page ≡ Some b → ((q : ℕ) → first ≤ q → q < page → h q ≡ None) →
-      filter_map h (range_with_len first n) ≡ b ∷ filter_map h (range_with_len (page + 1) (first + n - (page + 1)))
-  filter_first first zero page b low high is none = absurd (omega (arith, low, high))
-  filter_first first (suc n) page b low high is none = elim (cases_eq first page) [
+  -- up to the first page that may give something
+  pub filter_next : (first n page : ℕ) → first ≤ page → page < first + n → ((q : ℕ) → first ≤ q → q < page → h q ≡ None) →
+      filter_map h (range_with_len first n) ≡ cons_option (h page) (filter_map h (range_with_len (page + 1) (first + n - (page + 1))))
+  filter_next first zero page low high none = absurd (omega (arith, low, high))
+  filter_next first (suc n) page low high none = elim (cases_eq first page) [
     | inl same ↦
         let rest : n ≡ first + suc n - (page + 1) = omega (arith, same) in
-        ap (λ o. cons_option o (filter_map h (range_with_len (first + 1) n))) (ap h same ∙ is)
-        ∙ (λ i. b ∷ filter_map h (range_with_len (same i + 1) (rest i)))
+        λ i. cons_option (h (same i)) (filter_map h (range_with_len (same i + 1) (rest i)))
     | inr apart ↦
         let rest : first + 1 + n - (page + 1) ≡ first + suc n - (page + 1) = omega arith in
         ap (λ o. cons_option o (filter_map h (range_with_len (first + 1) n))) (none first (omega arith) (omega (arith, low, apart)))
-        ∙ filter_first (first + 1) n page b (omega (arith, low, apart)) (omega (arith, high)) is (λ q a c. none q (omega (arith, a)) c)
-        ∙ ap (λ k. b ∷ filter_map h (range_with_len (page + 1) k)) rest
+        ∙ filter_next (first + 1) n page (omega (arith, low, apart)) (omega (arith, high)) (λ q a c. none q (omega (arith, a)) c)
+        ∙ ap (λ k. cons_option (h page) (filter_map h (range_with_len (page + 1) k))) rest
   ]
 
 module _ (pages : HeldPages) (next end : ℕ) where
+  -- what is given from the next held page on, where nothing is given of a page that is not held
+  pub next_given : (h : ℕ → Option Number) → ((q : ℕ) → held_at pages q ≡ None → h q ≡ None) → (page : ℕ) (number : Number) → IsFirstHeld pages next end page number →
+      filter_map h (range_with_len next (end - next)) ≡ cons_option (h page) (filter_map h (range_with_len (page + 1) (end - (page + 1))))
+  next_given h none page number at =
+      let count : next + (end - next) ≡ end = omega (arith, at.from, at.before) in
+      filter_next h next (end - next) page at.from (omega (arith, at.before, count)) (λ q a b. none q (at.least q a b))
+      ∙ ap (λ k. cons_option (h page) (filter_map h (range_with_len (page + 1) (k - (page + 1))))) count
+
+  pub none_given : (h : ℕ → Option Number) → ((q : ℕ) → held_at pages q ≡ None → h q ≡ None) → next ≤ end → ((q : ℕ) → next ≤ q → q < end → held_at pages q ≡ None) →
+      (numbers : List Number) → numbers ++ filter_map h (range_with_len next (end - next)) ≡ numbers
+  none_given h none low rest numbers =
+      ap (λ l. numbers ++ l) (filter_none h next (end - next) (λ q a b. none q (rest q a (omega (arith, b, low))))) ∙ append-nil numbers
+
   -- the numbers so far, and those from the next held page on
   pub first_number : (page : ℕ) (number : Number) → IsFirstHeld pages next end page number → (numbers : List Number) →
       (numbers ++ number ∷ []) ++ numbers_held pages (page + 1) (end - (page + 1)) ≡ numbers ++ numbers_held pages next (end - next)
   first_number page number at numbers =
-      let count : next + (end - next) ≡ end = omega (arith, at.from, at.before) in
       append_assoc numbers (number ∷ []) (numbers_held pages (page + 1) (end - (page + 1)))
-      ∙ ap (λ l. numbers ++ l) (sym (
-        filter_first (λ q. option_map (λ held. held.number) (held_at pages q)) next (end - next) page number at.from (omega (arith, at.before, count)) at.there (λ q a b. ap (option_map (λ held. held.number)) (at.least q a b))
-        ∙ ap (λ k. number ∷ numbers_held pages (page + 1) (k - (page + 1))) count))
+      ∙ ap (λ l. numbers ++ l) (sym (next_given (number_held pages) (λ q e. ap (option_map (λ held. held.number)) e) page number at ∙ ap (λ o. cons_option o (numbers_held pages (page + 1) (end - (page + 1)))) at.there))
 
   pub no_numbers : next ≤ end → ((q : ℕ) → next ≤ q → q < end → held_at pages q ≡ None) → (numbers : List Number) → numbers ++ numbers_held pages next (end - next) ≡ numbers
-  no_numbers low none numbers =
-      ap (λ l. numbers ++ l) (filter_none (λ q. option_map (λ held. held.number) (held_at pages q)) next (end - next) (λ q a b. ap (option_map (λ held. held.number)) (none q a (omega (arith, b, low)))))
-      ∙ append-nil numbers
+  no_numbers = none_given (number_held pages) (λ q e. ap (option_map (λ held. held.number)) e)
+
+-- one number more, if it is not passed over
+pub passed_over : (is_passed_over : Bool) (number : Number) (numbers rest : List Number) →
+    (numbers ++ cond is_passed_over [] (number ∷ [])) ++ rest ≡ numbers ++ cons_option (cond is_passed_over None (Some number)) rest
+passed_over is_passed_over number numbers rest = append_assoc numbers (cond is_passed_over [] (number ∷ [])) rest ∙ ap (λ l. numbers ++ l) (go is_passed_over)
+  where
+    go : (b : Bool) → cond b [] (number ∷ []) ++ rest ≡ cons_option (cond b None (Some number)) rest
+    go true = refl
+    go false = refl
 
 pub nothing_cleared : (first : ℕ) (pages : HeldPages) → Clears first first pages pages
 nothing_cleared first pages = record {

@@ -3,7 +3,7 @@
 --     Sets, SetsBoth      what one page holds is set;  and then what another one holds
 --     Clears      no page of a range is held any more
 --     IsFirstHeld      the first held page of a range, with its number
---     numbers_held      the numbers of the held pages of a range, in the order of the pages
+--     number_held, numbers_held      the number of the held page at a page;  the numbers of the held pages of a range, in the order of the pages
 use Rattle.std.specs.Prelude.{◌≡◌, ◌≢◌, ℕ, ◌<◌, ◌≤◌, List, Option, Some, None}
 use Rattle.std.specs.Option.{option_map}
 use Rattle.std.specs.List.{filter_map, range_with_len}
@@ -41,5 +41,8 @@ pub record IsFirstHeld (pages : HeldPages) (first end page : ℕ) (number : Numb
   pub there : option_map (λ held. held.number) (held_at pages page) ≡ Some number
   pub least : (q : ℕ) → first ≤ q → q < page → held_at pages q ≡ None
 
+abbrev pub number_held : HeldPages → ℕ → Option Number
+number_held pages page = option_map (λ held. held.number) (held_at pages page)
+
 abbrev pub numbers_held : HeldPages → ℕ → ℕ → List Number
-numbers_held pages first count = filter_map (λ page. option_map (λ held. held.number) (held_at pages page)) (range_with_len first count)
+numbers_held pages first count = filter_map (number_held pages) (range_with_len first count)

@@ -3,11 +3,12 @@
 //! them cost.
 #![tactic(auto)]
 
+mod changes;
 mod held;
 mod pages;
 mod ranges;
 mod space;
 
 pub use held::{HeldPage, Number};
-pub use page_runs::{Mark, Run};
+pub use page_runs::{Change, Effect, Mark, Run};
 pub use space::{AddressSpace, PageView};

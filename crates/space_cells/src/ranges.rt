@@ -1,16 +1,20 @@
 //! Ranges of pages that are mapped, unmapped and protected, and copies of a space.
 ghost use Rattle.std.specs.Prelude.{◌≡◌, ◌+◌, ◌-◌, ◌<◌, ◌^◌, Some, None, IfOk, OnOk, OnErr};
+ghost use Rattle.std.specs.List.{All};
 ghost use Rattle.std.specs.Option.{option_map};
 ghost use Rattle.page_map.specs.Cell.{with_perm};
 ghost use Rattle.page_map.specs.Change.{change};
 ghost use Rattle.page_map.specs.Mapping.{backed};
 ghost use Rattle.page_runs.specs.Mark.{index_of};
+ghost use Rattle.page_runs.specs.Changes.{IsChange};
 ghost use Rattle.space_cells.specs.Cells.{numbers_in};
+ghost use Rattle.space_cells.specs.Changes.{all_released, cells_after_all};
 
+use crate::changes::{clear_all, released};
 use crate::held::{Number, clear, copy_all, numbers};
 use crate::space::AddressSpace;
 use corten_base::Perm;
-use page_runs::Run;
+use page_runs::{Change, Run};
 use std::alloc::{AllocError, Global};
 
 impl AddressSpace {
@@ -56,6 +60,20 @@ impl AddressSpace {
         ensures err { OnErr result (self.new ≡ self.old) }
     {
         self.marks.protect(first, count, perm)
+    }
+
+    /// Maps, unmaps and protects pages of several ranges, one after the other, all or none, and answers the numbers of the
+    /// frames and slots that the mapped and unmapped pages had.
+    pub fn apply(&mut self, alloc: Global, changes: &[Change]) -> Result<Vec<Number>, AllocError>
+        requires { All IsChange changes.now }
+        ensures released { IfOk result (λ released. released.items ≡ all_released self.old changes.now) }
+        ensures ok { OnOk result (self.new ≡ cells_after_all self.old changes.now) }
+        ensures err { OnErr result (self.new ≡ self.old) }
+    {
+        let numbers = released(alloc, &self.pages, changes)?;
+        self.marks.apply(changes)?;
+        clear_all(&mut self.pages, changes);
+        Ok(numbers)
     }
 
     /// The same cells once more, with bytes of their own.

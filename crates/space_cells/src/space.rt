@@ -161,6 +161,7 @@ impl AddressSpace {
         ensures { result ≡ gap thread self.now count }
     {
         let first = (u64::from(thread) + 1) * ARENA_PAGES;
-        self.marks.gap(first + u64::from(known), first + ARENA_PAGES, count)
+        self.marks
+            .gap(first + u64::from(known), first + ARENA_PAGES, count)
     }
 }

@@ -1,4 +1,4 @@
-use Rattle.std.proofs.Common.{◌≡◌, ℕ, ◌+◌, ◌-◌, ◌*◌, ◌^◌, ◌<◌, ◌≤◌, Some, None, sym, ap, subst, ◌∙◌, arith}
+use Rattle.std.proofs.Common.{◌≡◌, ◌+◌, ◌-◌, ◌*◌, ◌^◌, ◌<◌, ◌≤◌, None, sym, ap, subst, ◌∙◌, arith}
 use Rattle.std.specs.Prelude.{is_none}
 use Rattle.std.specs.FinMap.{get}
 use Rattle.page_map.specs.Change.{least}
@@ -16,8 +16,8 @@ at c =
     let next = first + c.from-2.result in
     full_up_to c.args.self.now c.args.thread c.from-2.result first (ap (λ t. (t + 1) * 2 ^ 27) c.from.ensures) (subst (λ n. IsFull c.args.self.now c.args.thread n) (sym c.from-2.ensures) c.requires.known)
     c.in-Some.page (sym (
-      c.in-Some.ensures ∙ least_hole c.self.inside.marks c.self.inside.pages next (first + 2 ^ 27 - next)
-      ∙ ap (λ m. least next (first + 2 ^ 27 - next) (λ page. is_none (get m page))) c.self.view_is))
+    c.in-Some.ensures ∙ least_hole c.self.inside.marks c.self.inside.pages next (first + 2 ^ 27 - next)
+    ∙ ap (λ m. least next (first + 2 ^ 27 - next) (λ page. is_none (get m page))) c.self.view_is))
 
 pub overflow_sub-result : goal.overflow_sub-result
 overflow_sub-result c = (at c).0
@@ -39,5 +39,5 @@ returns-in-None-clause-full c =
     let next = first + c.from-2.result in
     all_full c.args.self.now c.args.thread c.from-2.result first (ap (λ t. (t + 1) * 2 ^ 27) c.from.ensures) (subst (λ n. IsFull c.args.self.now c.args.thread n) (sym c.from-2.ensures) c.requires.known)
     (sym (
-      c.in-None.ensures ∙ least_hole c.self.inside.marks c.self.inside.pages next (first + 2 ^ 27 - next)
-      ∙ ap (λ m. least next (first + 2 ^ 27 - next) (λ page. is_none (get m page))) c.self.view_is))
+    c.in-None.ensures ∙ least_hole c.self.inside.marks c.self.inside.pages next (first + 2 ^ 27 - next)
+    ∙ ap (λ m. least next (first + 2 ^ 27 - next) (λ page. is_none (get m page))) c.self.view_is))

@@ -12,7 +12,7 @@ use Rattle.space_cells.proofs.space.AddressSpace.hold.Goals as goal
 pub invariant_of-self : goal.invariant_of-self
 invariant_of-self c = either c.put.result c.put.ensures.ok c.put.ensures.err
     (λ sets. set_have_marks c.self.inside.marks c.self.inside.pages c.put.new.pages c.args.page (Some c.args.held) sets c.self.invariant
-        (λ _. sym (same_some c.self.inside.marks c.self.inside.pages c.args.page) ∙ ap (λ m. is_some (map.get m c.args.page)) c.self.view_is ∙ c.requires))
+    (λ _. sym (same_some c.self.inside.marks c.self.inside.pages c.args.page) ∙ ap (λ m. is_some (map.get m c.args.page)) c.self.view_is ∙ c.requires))
     (λ same. same_have_marks c.self.inside.marks c.self.inside.pages c.put.new.pages same c.self.invariant)
 
 pub returns-clause-old : goal.returns-clause-old
@@ -22,8 +22,8 @@ returns-clause-old c = IfOk-weaker c.put.result _ _
 pub returns-clause-ok : goal.returns-clause-ok
 returns-clause-ok c = on_ok_weaker c.put.result
     (λ sets.
-        held_cells c.self.inside.marks c.self.inside.pages c.put.new.pages c.args.page c.args.held sets
-        ∙ ap (λ m. change m c.args.page 1 (λ _. option_map (with_held c.args.held))) c.self.view_is) c.put.ensures.ok
+    held_cells c.self.inside.marks c.self.inside.pages c.put.new.pages c.args.page c.args.held sets
+    ∙ ap (λ m. change m c.args.page 1 (λ _. option_map (with_held c.args.held))) c.self.view_is) c.put.ensures.ok
 
 pub returns-clause-unheld : goal.returns-clause-unheld
 returns-clause-unheld c = on_err_weaker c.put.result

@@ -15,5 +15,5 @@ invariant_of-self c = either c.protect.result c.protect.ensures.ok c.protect.ens
 pub returns-clause-ok : goal.returns-clause-ok
 returns-clause-ok c = on_ok_weaker c.protect.result
     (λ e.
-        ap (λ m. cells_of m c.self.inside.pages) e ∙ protected_cells c.self.inside.marks c.self.inside.pages c.args.first c.args.count c.args.perm
-        ∙ ap (λ m. change m c.args.first c.args.count (λ _. option_map (with_perm c.args.perm))) c.self.view_is) c.protect.ensures.ok
+    ap (λ m. cells_of m c.self.inside.pages) e ∙ protected_cells c.self.inside.marks c.self.inside.pages c.args.first c.args.count c.args.perm
+    ∙ ap (λ m. change m c.args.first c.args.count (λ _. option_map (with_perm c.args.perm))) c.self.view_is) c.protect.ensures.ok
