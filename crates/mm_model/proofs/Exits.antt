@@ -31,8 +31,8 @@ use Rattle.page_map.proofs.StepKeeps.{step_keeps}
 use Rattle.plain_counts.specs.Fronts.{AreFull, IsFull, full_pages, full_before}
 use Rattle.plain_counts.specs.Levels.{is_elsewhere}
 use Rattle.plain_spaces.specs.Copies.{AreLow}
-use Rattle.plain_spaces.specs.Reach.{carried, Follows}
-use Rattle.plain_spaces.proofs.Copied.{nothing_carried}
+use Rattle.plain_counts.specs.Counts.{carried, Follows}
+use Rattle.plain_spaces.proofs.Released.{nothing_carried}
 use Rattle.mm_model.specs.Plain.{IsSound, owner_counts}
 use Rattle.mm_model.proofs.AccessSteps.{no_need}
 use Rattle.mm_model.proofs.Carried.{counts_long, counts_from, counted_at}
@@ -87,7 +87,7 @@ all_gone cells low = same_map nat_cmp_total nat_cmp-IsAntisymmetric _ _ (λ q. g
     ]
 
 module _ (number_of : Cell → Option ℕ) (st : State) (limit : ℕ) (counts : List ℕ) (are : counts ≡ owner_counts (owners number_of st) limit) (space : ℕ) (cells : AddressSpace) (here : get st.spaces space ≡ Some cells) where
-  pub left_counts : (gone : AddressSpace) (next : State) (after : List ℕ) → gone ≡ fin.empty → next.spaces ≡ fin.remove st.spaces space → Follows None number_of counts after cells gone → after ≡ owner_counts (owners number_of next) limit
+  pub left_counts : (gone : AddressSpace) (next : State) (after : List ℕ) → gone ≡ fin.empty → next.spaces ≡ fin.remove st.spaces space → Follows number_of counts after cells gone → after ≡ owner_counts (owners number_of next) limit
   unfolding owners
   left_counts gone next after nothing is follows =
       counts_from (owners number_of next) limit after (follows.numbers ∙ counts_long (owners number_of st) limit counts are) (λ n h.
@@ -119,7 +119,7 @@ exit_full st next space fronts fronts' is full known others s t small few = go (
 -- what the machine keeps
 pub exit_sound : (st : State) (space : ℕ) (cells gone : AddressSpace) (spaces : fin.FinMap nat_cmp AddressSpace) (tables : Tables) (frames slots fronts frames' slots' fronts' : List ℕ) → IsSound st frames slots fronts → get st.spaces space ≡ Some cells →
     spaces ≡ fin.remove st.spaces space → tables ≡ set.retain st.tables (is_elsewhere space) → gone ≡ change cells 0 (2 ^ 35) (λ _ _. None) →
-    Follows None frame_of frames frames' cells gone → Follows None slot_of slots slots' cells gone →
+    Follows frame_of frames frames' cells gone → Follows slot_of slots slots' cells gone →
     ((t : ℕ) → t < 8 → full_pages fronts' space t ≡ full_before (arena_first t) (full_pages fronts space t) 0 (2 ^ 35)) → ((s t : ℕ) → (s ≡ space → ⊥) → t < 8 → full_pages fronts' s t ≡ full_pages fronts s t) →
     IsSound (record st { spaces = spaces; tables = tables }) frames' slots' fronts'
 exit_sound st space cells gone spaces tables frames slots fronts frames' slots' fronts' sound here without left is follow_frames follow_slots known others =

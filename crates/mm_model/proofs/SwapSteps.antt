@@ -25,7 +25,7 @@ use Rattle.page_map.specs.Step.{step, refusal, first_refusal, refused_unless, ar
 use Rattle.page_map.proofs.Steps.{accepted, refused}
 use Rattle.page_map.proofs.StepKeeps.{step_keeps}
 use Rattle.plain_counts.specs.Owners.{unused_of}
-use Rattle.plain_spaces.specs.Reach.{Follows}
+use Rattle.plain_counts.specs.Counts.{Follows}
 use Rattle.plain_spaces.specs.Swapping.{is_sole}
 use Rattle.mm_model.specs.Plain.{IsSound}
 use Rattle.mm_model.proofs.AccessSteps.{no_need, same_tables, same_keys}
@@ -126,7 +126,7 @@ module _ (st : State) (c : Call) (space at len : ℕ) (lack : Option Reply) (aft
           step_is = (λ i. ((reply_is ∙ sym (is.answer_is thread)) i, after_is i)) ∙ sym (accepted st thread c limbo (decided ∙ enough))
 
   module _ (right : is_page_range 4 at len ≡ true) (cells : AddressSpace) (here : get st.spaces space ≡ Some cells) (enough : lack ≡ None) (cells' : AddressSpace) (cells_are : cells' ≡ after) where
-    pub move_stays_sound : (frames slots fronts frames' slots' : List ℕ) → IsSound st frames slots fronts → Follows None frame_of frames frames' cells cells' → Follows None slot_of slots slots' cells cells' →
+    pub move_stays_sound : (frames slots fronts frames' slots' : List ℕ) → IsSound st frames slots fronts → Follows frame_of frames frames' cells cells' → Follows slot_of slots slots' cells cells' →
         ((q : ℕ) → IsSome (get cells q) → IsSome (get cells' q)) → IsSound (record st { spaces = fin.insert st.spaces space cells' }) frames' slots' fronts
     move_stays_sound frames slots fronts frames' slots' sound frames_follow slots_follow stay =
         let next : State = record st { spaces = fin.insert st.spaces space cells' } in

@@ -9,7 +9,7 @@ use Rattle.page_map.specs.Mapping.{op_pages, after_ops}
 use Rattle.page_map.specs.State.{State}
 use Rattle.plain_spaces.proofs.Moves.{put_back}
 use Rattle.plain_spaces.proofs.Variants.{some_borrow}
-use Rattle.txn_plan.specs.Applies.{first_index}
+use Rattle.txn_plan.specs.Changes.{first_index}
 use Rattle.txn_plan.specs.Forgetting.{Forgets}
 use Rattle.txn_plan.specs.Needs.{IsInSpan}
 use Rattle.mm_model.specs.Plain.{IsSound}
@@ -95,7 +95,7 @@ invariant_of-self-2 c =
     (commit_stays_sound st c.args.space c.args.ops.now (may at.After-get_mut) c.unwrap-cells.result.now c.commit.new.cells c.commit.new.tables (here at.After-unwrap-cells)
     (c.in_ok-commit.ensures.cells ∙ ap (λ os. after_ops os c.unwrap-cells.result.now) list)
     (c.in_ok-commit.ensures.tables st ∙ (λ i. set.union c.self.inside.tables (set.from_list (flat_map (above_op st (c.number-number.ensures.value i)) (list i)))))
-    c.self.inside.frames c.self.inside.slots c.self.inside.fronts c.commit.new.frames c.commit.new.slots c.forget_unmapped.new.fronts c.self.invariant c.in_ok-commit.ensures.frames c.in_ok-commit.ensures.slots forgets)
+    c.self.inside.counts.frames c.self.inside.counts.slots c.self.inside.fronts c.commit.new.frames c.commit.new.slots c.forget_unmapped.new.fronts c.self.invariant c.in_ok-commit.ensures.frames c.in_ok-commit.ensures.slots forgets)
 
 pub returns-clause-ok : goal.returns-clause-ok
 returns-clause-ok c =

@@ -23,7 +23,7 @@ same c = c.remove.ensures.spaces ∙ none_removed c.self.inside.spaces c.number-
 pub invariant_of-self : goal.invariant_of-self
 invariant_of-self c =
     let at = goal.at.invariant_of-self c in
-    subst (λ spaces. IsSound (record (before at.After-remove) { spaces = spaces }) c.self.inside.frames c.self.inside.slots c.self.inside.fronts) (sym (same at.In_default)) c.self.invariant
+    subst (λ spaces. IsSound (record (before at.After-remove) { spaces = spaces }) c.self.inside.counts.frames c.self.inside.counts.slots c.self.inside.fronts) (sym (same at.In_default)) c.self.invariant
 
 pub returns-in_default : goal.returns-in_default
 returns-in_default c =

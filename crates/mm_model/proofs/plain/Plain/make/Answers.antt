@@ -24,7 +24,7 @@ overflow_sub-need c =
 pub invariant_of-self-in-Some : goal.invariant_of-self-in-Some
 invariant_of-self-in-Some c =
     let at = (goal.at.invariant_of-self-in-Some c).After-len-linked in
-    subst (λ tables. IsSound (record (before at) { tables = tables }) c.self.inside.frames c.self.inside.slots c.self.inside.fronts)
+    subst (λ tables. IsSound (record (before at) { tables = tables }) c.self.inside.counts.frames c.self.inside.counts.slots c.self.inside.fronts)
     (sym (back (before at) c.args.new c.args.cells c.args.limbo _ _ _ (may at) c.self.invariant c.add_tables.new.tables c.in_ok-add_tables.ensures.ok c.remove_space.new.self c.remove_space.ensures)) c.self.invariant
 
 -- the page tables that are missing, as the machine counted them

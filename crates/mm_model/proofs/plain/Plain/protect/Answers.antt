@@ -16,7 +16,7 @@ use Rattle.page_map.specs.State.{State, linked}
 use Rattle.page_map.specs.Tables.{Tables, changed_tables}
 use Rattle.page_map.proofs.Least.{least_passes}
 use Rattle.plain_spaces.proofs.Moves.{put_back}
-use Rattle.plain_spaces.specs.Reach.{Follows}
+use Rattle.plain_counts.specs.Counts.{Follows}
 use Rattle.plain_spaces.proofs.Followed.{protected_stay, protected_slots_stay}
 use Rattle.mm_model.specs.Plain.{IsSound}
 use Rattle.mm_model.proofs.AccessSteps.{no_need, same_tables}
@@ -72,7 +72,7 @@ same c =
 pub invariant_of-self-in-Some-hole : goal.invariant_of-self-in-Some-hole
 invariant_of-self-in-Some-hole c =
     let at = goal.at.invariant_of-self-in-Some-hole c in
-    subst (λ spaces. IsSound (record (before at.After-get_mut) { spaces = spaces }) c.self.inside.frames c.self.inside.slots c.self.inside.fronts) (sym (same at.After-hole)) c.self.invariant
+    subst (λ spaces. IsSound (record (before at.After-get_mut) { spaces = spaces }) c.self.inside.counts.frames c.self.inside.counts.slots c.self.inside.fronts) (sym (same at.After-hole)) c.self.invariant
 
 pub returns-in-Some-hole : goal.returns-in-Some-hole
 returns-in-Some-hole c =
@@ -123,12 +123,12 @@ invariant_of-self-2 c =
     let is = sym c.protect.ensures in
     let full = full_stays st n cells c.protect.new.self c.self.inside.tables c.self.inside.fronts here
     (λ q there. subst (λ m. IsSome (map.get m q)) is (change_stays cells first count (λ _. option_map (with_perm c.args.perm)) (λ _ _. refl) q there)) c.self.invariant.full in
-    subst (λ spaces. IsSound (record st { spaces = spaces }) c.self.inside.frames c.self.inside.slots c.self.inside.fronts) (sym (lent at.After-protect))
+    subst (λ spaces. IsSound (record st { spaces = spaces }) c.self.inside.counts.frames c.self.inside.counts.slots c.self.inside.fronts) (sym (lent at.After-protect))
     (op_stays_sound st (call.Protect n c.args.at c.args.len c.args.perm) n (op.Protect c.args.at c.args.len c.args.perm) _ _ _ (protect_op st n c.args.at c.args.len c.args.perm) (right at.After-get_mut) cells here (allowed at.After-protect)
-    c.protect.new.self c.self.inside.tables (cells_are at.After-protect) (tables_are c.self.inside.tables) c.self.inside.frames c.self.inside.slots c.self.inside.fronts c.self.inside.frames c.self.inside.slots c.self.inside.fronts c.self.invariant
+    c.protect.new.self c.self.inside.tables (cells_are at.After-protect) (tables_are c.self.inside.tables) c.self.inside.counts.frames c.self.inside.counts.slots c.self.inside.fronts c.self.inside.counts.frames c.self.inside.counts.slots c.self.inside.fronts c.self.invariant
     0 (fits st n c.args.at c.args.len 0 c.args.perm (omega (arith, c.self.invariant.state.tables)))
-    (subst (Follows None frame_of c.self.inside.frames c.self.inside.frames cells) is (protected_stay c.self.inside.frames cells first count c.args.perm))
-    (subst (Follows None slot_of c.self.inside.slots c.self.inside.slots cells) is (protected_slots_stay c.self.inside.slots cells first count c.args.perm)) full)
+    (subst (Follows frame_of c.self.inside.counts.frames c.self.inside.counts.frames cells) is (protected_stay c.self.inside.counts.frames cells first count c.args.perm))
+    (subst (Follows slot_of c.self.inside.counts.slots c.self.inside.counts.slots cells) is (protected_slots_stay c.self.inside.counts.slots cells first count c.args.perm)) full)
 
 pub returns : goal.returns
 returns c =

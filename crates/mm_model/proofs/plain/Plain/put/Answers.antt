@@ -46,11 +46,11 @@ invariant_of-self c =
     let at = goal.at.invariant_of-self c in
     let st = before at.After-unwrap-cells in
     subst (λ spaces. IsSound (record st { spaces = spaces; tables = c.put_in.new.tables }) c.put_in.new.frames c.put_in.new.slots c.self.inside.fronts) (sym (lent at.After-put_in))
-    (go st c.args.mapping.now c.args.first (may at.After-unwrap-cells) c.unwrap-cells.result.now c.put_in.new.cells (here at.After-unwrap-cells) c.put_in.new.tables c.self.inside.frames c.put_in.new.frames c.self.inside.slots c.put_in.new.slots c.self.inside.fronts c.self.invariant
+    (go st c.args.mapping.now c.args.first (may at.After-unwrap-cells) c.unwrap-cells.result.now c.put_in.new.cells (here at.After-unwrap-cells) c.put_in.new.tables c.self.inside.counts.frames c.put_in.new.frames c.self.inside.counts.slots c.put_in.new.slots c.self.inside.fronts c.self.invariant
     c.put_in.result c.put_in.ensures.cells c.put_in.ensures.tables c.put_in.ensures.frames c.put_in.ensures.slots c.put_in.ensures.kept c.put_in.ensures.tables_stay)
   where
     go : (st : State) (m : _) (first : ℕ) → MayPut st m first → (cells cells' : AddressSpace) → map.get st.spaces m.space ≡ Some cells → (tables' : Tables) (frames frames' slots slots' fronts : List ℕ) → IsSound st frames slots fronts →
-        (r : Result (Unit {0}) AllocError) → OnOk r (cells' ≡ filled m first cells) → OnOk r (tables' ≡ tables_with m first st.tables) → OnOk r (Follows None frame_of frames frames' cells cells') → OnOk r (Follows None slot_of slots slots' cells cells') →
+        (r : Result (Unit {0}) AllocError) → OnOk r (cells' ≡ filled m first cells) → OnOk r (tables' ≡ tables_with m first st.tables) → OnOk r (Follows frame_of frames frames' cells cells') → OnOk r (Follows slot_of slots slots' cells cells') →
         OnErr r (Keeps cells cells' frames frames' slots slots') → OnErr r (tables' ≡ st.tables) → IsSound (record st { spaces = map.insert st.spaces m.space cells'; tables = tables' }) frames' slots' fronts
     go st m first may cells cells' here tables' frames frames' slots slots' fronts sound (Ok r) a b f g k t =
         put_stays_sound st m first may cells cells' tables' frames slots fronts frames' slots' here a b sound f g

@@ -43,7 +43,7 @@ returns-in_default-get_mut c =
 
 pub overflow_cast-need : goal.overflow_cast-need
 overflow_cast-need c =
-    let few = in_few (before (goal.at.overflow_cast-need c).After-get_mut) c.self.inside.frames c.self.inside.slots c.self.inside.fronts c.self.invariant c.number.result c.in-Some-get_mut.cells.now (sym c.in-Some-get_mut.ensures.value) c.args.at c.args.len
+    let few = in_few (before (goal.at.overflow_cast-need c).After-get_mut) c.self.inside.counts.frames c.self.inside.counts.slots c.self.inside.fronts c.self.invariant c.number.result c.in-Some-get_mut.cells.now (sym c.in-Some-get_mut.ensures.value) c.args.at c.args.len
     c.first-first.result c.count-count.result in
     omega (arith, few, c.swapped_pages-need.ensures)
 
@@ -66,7 +66,7 @@ same c =
 pub invariant_of-self-then-free-need : goal.invariant_of-self-then-free-need
 invariant_of-self-then-free-need c =
     let at = goal.at.invariant_of-self-then-free-need c in
-    subst (λ spaces. IsSound (record (before at.After-get_mut) { spaces = spaces }) c.self.inside.frames c.self.inside.slots c.self.inside.fronts) (sym (same at.After-swapped_pages-need)) c.self.invariant
+    subst (λ spaces. IsSound (record (before at.After-get_mut) { spaces = spaces }) c.self.inside.counts.frames c.self.inside.counts.slots c.self.inside.fronts) (sym (same at.After-swapped_pages-need)) c.self.invariant
 
 pub returns-then-free-need : goal.returns-then-free-need
 returns-then-free-need c =
@@ -80,8 +80,8 @@ returns-then-free-need c =
     named st c.args.self.now c.self.view_is n c.args.space c.number.ensures.value (λ n. call.SwapIn n c.args.at c.args.len) r _
     (λ thread limbo legal. (λ i. (r, record st { spaces = same at.After-swapped_pages-need i }))
     ∙ stopped st (call.SwapIn n c.args.at c.args.len) n c.args.at c.args.len _ _ _ (in_move st n c.args.at c.args.len) thread limbo legal (right at.After-get_mut) cells here r
-    (in_lack st c.self.inside.frames c.self.inside.slots c.self.inside.fronts c.self.invariant n cells here c.args.at c.args.len true
-    (lt-ltb (length (unused_of c.self.inside.frames)) keys (omega (arith, c.if-free-need.true, c.free-free.ensures, need_is at.After-swapped_pages-need)))
+    (in_lack st c.self.inside.counts.frames c.self.inside.counts.slots c.self.inside.fronts c.self.invariant n cells here c.args.at c.args.len true
+    (lt-ltb (length (unused_of c.self.inside.counts.frames)) keys (omega (arith, c.if-free-need.true, c.free-free.ensures, need_is at.After-swapped_pages-need)))
     ∙ (λ i. Some (reply.NoFrames (sym c.free-free.ensures i) (sym (need_is at.After-swapped_pages-need) i)))))
 
 pub swap_in-requires-clause-frames : goal.swap_in-requires-clause-frames
@@ -104,19 +104,19 @@ abbrev need_here : (c : After-swap_in) → c.swapped_pages-need.result ≡ lengt
 need_here c = c.swapped_pages-need.ensures ∙ (λ i. length (keys_in c.in-Some-get_mut.cells.now (first_here c i) (count_here c i) comes_in))
 
 -- there are enough numbers
-enough : (c : After-swap_in) (st : State) → (sound : IsSound st c.self.inside.frames c.self.inside.slots c.self.inside.fronts) → map.get st.spaces c.number.result ≡ Some c.in-Some-get_mut.cells.now →
+enough : (c : After-swap_in) (st : State) → (sound : IsSound st c.self.inside.counts.frames c.self.inside.counts.slots c.self.inside.fronts) → map.get st.spaces c.number.result ≡ Some c.in-Some-get_mut.cells.now →
     no_frames st (call.SwapIn c.number.result c.args.at c.args.len) ≡ None
 enough c st sound here =
     let keys = length (keys_in c.in-Some-get_mut.cells.now (c.args.at / 4096) (pages_of c.args.len) comes_in) in
-    in_lack st c.self.inside.frames c.self.inside.slots c.self.inside.fronts sound c.number.result c.in-Some-get_mut.cells.now here c.args.at c.args.len false
-    (le-ltb (length (unused_of c.self.inside.frames)) keys (omega (arith, c.if-free-need.false, c.free-free.ensures, need_here c)))
+    in_lack st c.self.inside.counts.frames c.self.inside.counts.slots c.self.inside.fronts sound c.number.result c.in-Some-get_mut.cells.now here c.args.at c.args.len false
+    (le-ltb (length (unused_of c.self.inside.counts.frames)) keys (omega (arith, c.if-free-need.false, c.free-free.ensures, need_here c)))
 
-cells_are : (c : After-swap_in) (st : State) → (sound : IsSound st c.self.inside.frames c.self.inside.slots c.self.inside.fronts) → map.get st.spaces c.number.result ≡ Some c.in-Some-get_mut.cells.now →
+cells_are : (c : After-swap_in) (st : State) → (sound : IsSound st c.self.inside.counts.frames c.self.inside.counts.slots c.self.inside.fronts) → map.get st.spaces c.number.result ≡ Some c.in-Some-get_mut.cells.now →
     c.swap_in.new.self ≡ moved_to in_to (frame_grants st (call.SwapIn c.number.result c.args.at c.args.len)) (c.args.at / 4096) (pages_of c.args.len) (space_at st c.number.result)
 cells_are c st sound here =
     c.swap_in.ensures.cells
-    ∙ (λ i. moved_to in_to (grant (keys_in c.in-Some-get_mut.cells.now (first_here c i) (count_here c i) comes_in) (unused_of c.self.inside.frames)) (first_here c i) (count_here c i) c.in-Some-get_mut.cells.now)
-    ∙ in_cells st c.self.inside.frames c.self.inside.slots c.self.inside.fronts sound c.number.result c.in-Some-get_mut.cells.now here c.args.at c.args.len
+    ∙ (λ i. moved_to in_to (grant (keys_in c.in-Some-get_mut.cells.now (first_here c i) (count_here c i) comes_in) (unused_of c.self.inside.counts.frames)) (first_here c i) (count_here c i) c.in-Some-get_mut.cells.now)
+    ∙ in_cells st c.self.inside.counts.frames c.self.inside.counts.slots c.self.inside.fronts sound c.number.result c.in-Some-get_mut.cells.now here c.args.at c.args.len
 
 pub invariant_of-self-2 : goal.invariant_of-self-2
 invariant_of-self-2 c =
@@ -127,7 +127,7 @@ invariant_of-self-2 c =
     let here = sym c.in-Some-get_mut.ensures.value in
     subst (λ spaces. IsSound (record st { spaces = spaces }) c.swap_in.new.frames c.swap_in.new.slots c.self.inside.fronts) (sym (lent at.After-swap_in))
     (move_stays_sound st (call.SwapIn n c.args.at c.args.len) n c.args.at c.args.len _ _ _ (in_move st n c.args.at c.args.len) (right at.After-get_mut) cells here (enough at.After-swap_in st c.self.invariant here)
-    c.swap_in.new.self (cells_are at.After-swap_in st c.self.invariant here) c.self.inside.frames c.self.inside.slots c.self.inside.fronts c.swap_in.new.frames c.swap_in.new.slots c.self.invariant
+    c.swap_in.new.self (cells_are at.After-swap_in st c.self.invariant here) c.self.inside.counts.frames c.self.inside.counts.slots c.self.inside.fronts c.swap_in.new.frames c.swap_in.new.slots c.self.invariant
     c.swap_in.ensures.frames c.swap_in.ensures.slots
     (λ q there. subst (λ m. IsSome (map.get m q)) (sym c.swap_in.ensures.cells) (moved_stay in_to _ c.first-first.result c.count-count.result cells q there)))
 
@@ -143,4 +143,4 @@ returns c =
     (λ thread limbo legal. (λ i. (r, record st { spaces = lent at.After-swap_in i }))
     ∙ step_is st (call.SwapIn n c.args.at c.args.len) n c.args.at c.args.len _ _ _ (in_move st n c.args.at c.args.len) thread limbo legal (right at.After-get_mut) cells here (enough at.After-swap_in st c.self.invariant here)
     c.swap_in.new.self (cells_are at.After-swap_in st c.self.invariant here) r
-    (ap reply.Moved (need_here at.After-swap_in) ∙ in_reply st c.self.inside.frames c.self.inside.slots c.self.inside.fronts c.self.invariant n cells here c.args.at c.args.len))
+    (ap reply.Moved (need_here at.After-swap_in) ∙ in_reply st c.self.inside.counts.frames c.self.inside.counts.slots c.self.inside.fronts c.self.invariant n cells here c.args.at c.args.len))

@@ -47,7 +47,7 @@ sole_pages-need-requires-clause-frames c = frames_here (before (goal.at.sole_pag
 
 pub overflow_cast-need : goal.overflow_cast-need
 overflow_cast-need c =
-    let few = out_few (before (goal.at.overflow_cast-need c).After-get_mut) c.self.inside.frames c.self.inside.slots c.self.inside.fronts c.self.invariant c.number.result c.in-Some-get_mut.cells.now (sym c.in-Some-get_mut.ensures.value) c.args.at c.args.len
+    let few = out_few (before (goal.at.overflow_cast-need c).After-get_mut) c.self.inside.counts.frames c.self.inside.counts.slots c.self.inside.fronts c.self.invariant c.number.result c.in-Some-get_mut.cells.now (sym c.in-Some-get_mut.ensures.value) c.args.at c.args.len
     c.first-first.result c.count-count.result in
     omega (arith, few, c.sole_pages-need.ensures)
 
@@ -58,8 +58,8 @@ first_is c = c.first-first.ensures.value ∙ ap (λ r. r.first) c.in-Some.ensure
 abbrev count_is : (c : After-sole_pages-need) → c.count-count.result ≡ pages_of c.args.len
 count_is c = c.count-count.ensures.value ∙ ap (λ r. r.count) c.in-Some.ensures.value
 
-abbrev need_is : (c : After-sole_pages-need) → c.sole_pages-need.result ≡ length (keys_in c.in-Some-get_mut.cells.now (c.args.at / 4096) (pages_of c.args.len) (is_sole (slice_index c.self.inside.frames)))
-need_is c = c.sole_pages-need.ensures ∙ (λ i. length (keys_in c.in-Some-get_mut.cells.now (first_is c i) (count_is c i) (is_sole (slice_index c.self.inside.frames))))
+abbrev need_is : (c : After-sole_pages-need) → c.sole_pages-need.result ≡ length (keys_in c.in-Some-get_mut.cells.now (c.args.at / 4096) (pages_of c.args.len) (is_sole (slice_index c.self.inside.counts.frames)))
+need_is c = c.sole_pages-need.ensures ∙ (λ i. length (keys_in c.in-Some-get_mut.cells.now (first_is c i) (count_is c i) (is_sole (slice_index c.self.inside.counts.frames))))
 
 -- the cells as they were
 abbrev same : (c : After-sole_pages-need) → c.get_mut.follows.lender c.in-Some-get_mut.cells.now ≡ c.self.inside.spaces
@@ -70,7 +70,7 @@ same c =
 pub invariant_of-self-then-free-need : goal.invariant_of-self-then-free-need
 invariant_of-self-then-free-need c =
     let at = goal.at.invariant_of-self-then-free-need c in
-    subst (λ spaces. IsSound (record (before at.After-get_mut) { spaces = spaces }) c.self.inside.frames c.self.inside.slots c.self.inside.fronts) (sym (same at.After-sole_pages-need)) c.self.invariant
+    subst (λ spaces. IsSound (record (before at.After-get_mut) { spaces = spaces }) c.self.inside.counts.frames c.self.inside.counts.slots c.self.inside.fronts) (sym (same at.After-sole_pages-need)) c.self.invariant
 
 pub returns-then-free-need : goal.returns-then-free-need
 returns-then-free-need c =
@@ -79,13 +79,13 @@ returns-then-free-need c =
     let n = c.number.result in
     let cells = c.in-Some-get_mut.cells.now in
     let here = sym c.in-Some-get_mut.ensures.value in
-    let keys = length (keys_in cells (c.args.at / 4096) (pages_of c.args.len) (is_sole (slice_index c.self.inside.frames))) in
+    let keys = length (keys_in cells (c.args.at / 4096) (pages_of c.args.len) (is_sole (slice_index c.self.inside.counts.frames))) in
     let r = reply.NoSwap c.free-free.result c.sole_pages-need.result in
     named st c.args.self.now c.self.view_is n c.args.space c.number.ensures.value (λ n. call.SwapOut n c.args.at c.args.len) r _
     (λ thread limbo legal. (λ i. (r, record st { spaces = same at.After-sole_pages-need i }))
     ∙ stopped st (call.SwapOut n c.args.at c.args.len) n c.args.at c.args.len _ _ _ (out_move st n c.args.at c.args.len) thread limbo legal (right at.After-get_mut) cells here r
-    (out_lack st c.self.inside.frames c.self.inside.slots c.self.inside.fronts c.self.invariant n cells here c.args.at c.args.len true
-    (lt-ltb (length (unused_of c.self.inside.slots)) keys (omega (arith, c.if-free-need.true, c.free-free.ensures, need_is at.After-sole_pages-need)))
+    (out_lack st c.self.inside.counts.frames c.self.inside.counts.slots c.self.inside.fronts c.self.invariant n cells here c.args.at c.args.len true
+    (lt-ltb (length (unused_of c.self.inside.counts.slots)) keys (omega (arith, c.if-free-need.true, c.free-free.ensures, need_is at.After-sole_pages-need)))
     ∙ (λ i. Some (reply.NoSwap (sym c.free-free.ensures i) (sym (need_is at.After-sole_pages-need) i)))))
 
 pub swap_out-requires-clause-frames : goal.swap_out-requires-clause-frames
@@ -104,23 +104,23 @@ first_here c = c.first-first.ensures.value ∙ ap (λ r. r.first) c.in-Some.ensu
 abbrev count_here : (c : After-swap_out) → c.count-count.result ≡ pages_of c.args.len
 count_here c = c.count-count.ensures.value ∙ ap (λ r. r.count) c.in-Some.ensures.value
 
-abbrev need_here : (c : After-swap_out) → c.sole_pages-need.result ≡ length (keys_in c.in-Some-get_mut.cells.now (c.args.at / 4096) (pages_of c.args.len) (is_sole (slice_index c.self.inside.frames)))
-need_here c = c.sole_pages-need.ensures ∙ (λ i. length (keys_in c.in-Some-get_mut.cells.now (first_here c i) (count_here c i) (is_sole (slice_index c.self.inside.frames))))
+abbrev need_here : (c : After-swap_out) → c.sole_pages-need.result ≡ length (keys_in c.in-Some-get_mut.cells.now (c.args.at / 4096) (pages_of c.args.len) (is_sole (slice_index c.self.inside.counts.frames)))
+need_here c = c.sole_pages-need.ensures ∙ (λ i. length (keys_in c.in-Some-get_mut.cells.now (first_here c i) (count_here c i) (is_sole (slice_index c.self.inside.counts.frames))))
 
 -- there are enough numbers
-enough : (c : After-swap_out) (st : State) → (sound : IsSound st c.self.inside.frames c.self.inside.slots c.self.inside.fronts) → map.get st.spaces c.number.result ≡ Some c.in-Some-get_mut.cells.now →
+enough : (c : After-swap_out) (st : State) → (sound : IsSound st c.self.inside.counts.frames c.self.inside.counts.slots c.self.inside.fronts) → map.get st.spaces c.number.result ≡ Some c.in-Some-get_mut.cells.now →
     no_swap st (call.SwapOut c.number.result c.args.at c.args.len) ≡ None
 enough c st sound here =
-    let keys = length (keys_in c.in-Some-get_mut.cells.now (c.args.at / 4096) (pages_of c.args.len) (is_sole (slice_index c.self.inside.frames))) in
-    out_lack st c.self.inside.frames c.self.inside.slots c.self.inside.fronts sound c.number.result c.in-Some-get_mut.cells.now here c.args.at c.args.len false
-    (le-ltb (length (unused_of c.self.inside.slots)) keys (omega (arith, c.if-free-need.false, c.free-free.ensures, need_here c)))
+    let keys = length (keys_in c.in-Some-get_mut.cells.now (c.args.at / 4096) (pages_of c.args.len) (is_sole (slice_index c.self.inside.counts.frames))) in
+    out_lack st c.self.inside.counts.frames c.self.inside.counts.slots c.self.inside.fronts sound c.number.result c.in-Some-get_mut.cells.now here c.args.at c.args.len false
+    (le-ltb (length (unused_of c.self.inside.counts.slots)) keys (omega (arith, c.if-free-need.false, c.free-free.ensures, need_here c)))
 
-cells_are : (c : After-swap_out) (st : State) → (sound : IsSound st c.self.inside.frames c.self.inside.slots c.self.inside.fronts) → map.get st.spaces c.number.result ≡ Some c.in-Some-get_mut.cells.now →
+cells_are : (c : After-swap_out) (st : State) → (sound : IsSound st c.self.inside.counts.frames c.self.inside.counts.slots c.self.inside.fronts) → map.get st.spaces c.number.result ≡ Some c.in-Some-get_mut.cells.now →
     c.swap_out.new.self ≡ moved_to out_to (slot_grants st (call.SwapOut c.number.result c.args.at c.args.len)) (c.args.at / 4096) (pages_of c.args.len) (space_at st c.number.result)
 cells_are c st sound here =
     c.swap_out.ensures.cells
-    ∙ (λ i. moved_to out_to (grant (keys_in c.in-Some-get_mut.cells.now (first_here c i) (count_here c i) (is_sole (slice_index c.self.inside.frames))) (unused_of c.self.inside.slots)) (first_here c i) (count_here c i) c.in-Some-get_mut.cells.now)
-    ∙ out_cells st c.self.inside.frames c.self.inside.slots c.self.inside.fronts sound c.number.result c.in-Some-get_mut.cells.now here c.args.at c.args.len
+    ∙ (λ i. moved_to out_to (grant (keys_in c.in-Some-get_mut.cells.now (first_here c i) (count_here c i) (is_sole (slice_index c.self.inside.counts.frames))) (unused_of c.self.inside.counts.slots)) (first_here c i) (count_here c i) c.in-Some-get_mut.cells.now)
+    ∙ out_cells st c.self.inside.counts.frames c.self.inside.counts.slots c.self.inside.fronts sound c.number.result c.in-Some-get_mut.cells.now here c.args.at c.args.len
 
 pub invariant_of-self-2 : goal.invariant_of-self-2
 invariant_of-self-2 c =
@@ -131,7 +131,7 @@ invariant_of-self-2 c =
     let here = sym c.in-Some-get_mut.ensures.value in
     subst (λ spaces. IsSound (record st { spaces = spaces }) c.swap_out.new.frames c.swap_out.new.slots c.self.inside.fronts) (sym (lent at.After-swap_out))
     (move_stays_sound st (call.SwapOut n c.args.at c.args.len) n c.args.at c.args.len _ _ _ (out_move st n c.args.at c.args.len) (right at.After-get_mut) cells here (enough at.After-swap_out st c.self.invariant here)
-    c.swap_out.new.self (cells_are at.After-swap_out st c.self.invariant here) c.self.inside.frames c.self.inside.slots c.self.inside.fronts c.swap_out.new.frames c.swap_out.new.slots c.self.invariant
+    c.swap_out.new.self (cells_are at.After-swap_out st c.self.invariant here) c.self.inside.counts.frames c.self.inside.counts.slots c.self.inside.fronts c.swap_out.new.frames c.swap_out.new.slots c.self.invariant
     c.swap_out.ensures.frames c.swap_out.ensures.slots
     (λ q there. subst (λ m. IsSome (map.get m q)) (sym c.swap_out.ensures.cells) (moved_stay out_to _ c.first-first.result c.count-count.result cells q there)))
 
@@ -147,4 +147,4 @@ returns c =
     (λ thread limbo legal. (λ i. (r, record st { spaces = lent at.After-swap_out i }))
     ∙ step_is st (call.SwapOut n c.args.at c.args.len) n c.args.at c.args.len _ _ _ (out_move st n c.args.at c.args.len) thread limbo legal (right at.After-get_mut) cells here (enough at.After-swap_out st c.self.invariant here)
     c.swap_out.new.self (cells_are at.After-swap_out st c.self.invariant here) r
-    (ap reply.Moved (need_here at.After-swap_out) ∙ out_reply st c.self.inside.frames c.self.inside.slots c.self.inside.fronts c.self.invariant n cells here c.args.at c.args.len))
+    (ap reply.Moved (need_here at.After-swap_out) ∙ out_reply st c.self.inside.counts.frames c.self.inside.counts.slots c.self.inside.fronts c.self.invariant n cells here c.args.at c.args.len))

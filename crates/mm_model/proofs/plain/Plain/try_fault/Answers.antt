@@ -49,12 +49,12 @@ invariant_of-self-2 c =
     subst (λ spaces. IsSound (record (before at.After-get_mut) { spaces = spaces }) c.fault.new.frames c.fault.new.slots c.self.inside.fronts) (sym (lent at.After-fault))
     (go c.fault.result c.fault.ensures.made c.fault.ensures.kept)
   where
-    go : (r : Result Reply Stop) → OnOk r (Makes c.self.inside.shelf c.in_ok-access.access c.in-Some.cells.now c.fault.new.self c.self.inside.frames c.fault.new.frames c.self.inside.slots c.fault.new.slots) →
-        OnErr r (Keeps c.in-Some.cells.now c.fault.new.self c.self.inside.frames c.fault.new.frames c.self.inside.slots c.fault.new.slots) →
+    go : (r : Result Reply Stop) → OnOk r (Makes c.self.inside.shelf c.in_ok-access.access c.in-Some.cells.now c.fault.new.self c.self.inside.counts.frames c.fault.new.frames c.self.inside.counts.slots c.fault.new.slots) →
+        OnErr r (Keeps c.in-Some.cells.now c.fault.new.self c.self.inside.counts.frames c.fault.new.frames c.self.inside.counts.slots c.fault.new.slots) →
         IsSound (record { spaces = map.insert c.self.inside.spaces c.number.result c.fault.new.self; tables = c.self.inside.tables; limits = c.self.inside.limits; files = c.self.inside.shelf }) c.fault.new.frames c.fault.new.slots c.self.inside.fronts
     go (Ok r) m k = stays_sound (before (goal.at.invariant_of-self-2 c).After-get_mut) _ _ _ c.self.invariant c.number.result c.in-Some.cells.now (sym c.in-Some.ensures.value)
         (call.Fault c.number.result c.args.at c.args.write) (reaching c.args.at 1 c.args.write) (fault_access _ c.number.result c.args.at c.args.write) c.in_ok-access.ensures.ok c.fault.new.self c.fault.new.frames c.fault.new.slots
-        (subst (λ a. Makes c.self.inside.shelf a c.in-Some.cells.now c.fault.new.self c.self.inside.frames c.fault.new.frames c.self.inside.slots c.fault.new.slots) c.in_ok-access.ensures.access m)
+        (subst (λ a. Makes c.self.inside.shelf a c.in-Some.cells.now c.fault.new.self c.self.inside.counts.frames c.fault.new.frames c.self.inside.counts.slots c.fault.new.slots) c.in_ok-access.ensures.access m)
     go (Err e) m k = same_sound (before (goal.at.invariant_of-self-2 c).After-get_mut) _ _ _ c.self.invariant c.number.result c.in-Some.cells.now (sym c.in-Some.ensures.value)
         (call.Fault c.number.result c.args.at c.args.write) (reaching c.args.at 1 c.args.write) (fault_access _ c.number.result c.args.at c.args.write) c.in_ok-access.ensures.ok c.fault.new.self c.fault.new.frames c.fault.new.slots k
 
@@ -62,7 +62,7 @@ pub returns-clause-ok : goal.returns-clause-ok
 returns-clause-ok c = go c.fault.result c.fault.ensures.reply c.fault.ensures.made
   where
     go : (r : Result Reply Stop) → IfOk r (λ answer. answer ≡ reply.Ok) →
-        OnOk r (Makes c.self.inside.shelf c.in_ok-access.access c.in-Some.cells.now c.fault.new.self c.self.inside.frames c.fault.new.frames c.self.inside.slots c.fault.new.slots) →
+        OnOk r (Makes c.self.inside.shelf c.in_ok-access.access c.in-Some.cells.now c.fault.new.self c.self.inside.counts.frames c.fault.new.frames c.self.inside.counts.slots c.fault.new.slots) →
         IfOk r (Accepts c.args.self.now (record { spaces = c.get_mut.follows.lender c.fault.new.self; tables = c.self.inside.tables; limits = c.self.inside.limits; files = c.self.inside.shelf }) (call.Fault c.args.space c.args.at c.args.write))
     go (Ok r) b m =
         let at = goal.at.returns-clause-ok c in
@@ -70,26 +70,26 @@ returns-clause-ok c = go c.fault.result c.fault.ensures.reply c.fault.ensures.ma
         (λ i. record (before at.After-get_mut) { spaces = lent at.After-fault i }) r
         (accepts (before at.After-get_mut) _ _ _ c.self.invariant c.number.result c.in-Some.cells.now (sym c.in-Some.ensures.value)
         (call.Fault c.number.result c.args.at c.args.write) (reaching c.args.at 1 c.args.write) (fault_access _ c.number.result c.args.at c.args.write) c.in_ok-access.ensures.ok c.fault.new.self c.fault.new.frames c.fault.new.slots
-        (subst (λ a. Makes c.self.inside.shelf a c.in-Some.cells.now c.fault.new.self c.self.inside.frames c.fault.new.frames c.self.inside.slots c.fault.new.slots) c.in_ok-access.ensures.access m) r
+        (subst (λ a. Makes c.self.inside.shelf a c.in-Some.cells.now c.fault.new.self c.self.inside.counts.frames c.fault.new.frames c.self.inside.counts.slots c.fault.new.slots) c.in_ok-access.ensures.access m) r
         (λ thread. b ∙ fault_answer (before at.After-get_mut) thread c.number.result c.args.at c.args.write))
     go (Err e) b m = tt
 
 pub returns-clause-refused : goal.returns-clause-refused
 returns-clause-refused c = go c.fault.result c.fault.ensures.refused
   where
-    go : (r : Result Reply Stop) → IfErr r (λ stop. IfSome (refusal_of stop) (λ answer. refused_in c.self.inside.shelf c.in-Some.cells.now c.self.inside.frames c.in_ok-access.access ≡ Some answer)) →
+    go : (r : Result Reply Stop) → IfErr r (λ stop. IfSome (refusal_of stop) (λ answer. refused_in c.self.inside.shelf c.in-Some.cells.now c.self.inside.counts.frames c.in_ok-access.access ≡ Some answer)) →
         IfErr r (λ stop. IfSome (refusal_of stop) (Refuses c.args.self.now (call.Fault c.args.space c.args.at c.args.write)))
     go (Ok r) h = tt
     go (Err e) h = IfSome_then _ h (λ r is.
         refuses_named (before (goal.at.returns-clause-refused c).After-get_mut) c.args.self.now c.self.view_is c.number.result c.args.space c.number.ensures.value (λ n. call.Fault n c.args.at c.args.write) r
         (refuses_inside (before (goal.at.returns-clause-refused c).After-get_mut) _ _ _ c.self.invariant c.number.result c.in-Some.cells.now (sym c.in-Some.ensures.value)
         (call.Fault c.number.result c.args.at c.args.write) (reaching c.args.at 1 c.args.write) (fault_access _ c.number.result c.args.at c.args.write) c.in_ok-access.ensures.ok r
-        (ap (refused_in c.self.inside.shelf c.in-Some.cells.now c.self.inside.frames) (sym c.in_ok-access.ensures.access) ∙ is)))
+        (ap (refused_in c.self.inside.shelf c.in-Some.cells.now c.self.inside.counts.frames) (sym c.in_ok-access.ensures.access) ∙ is)))
 
 pub returns-clause-kept : goal.returns-clause-kept
 returns-clause-kept c = go c.fault.result c.fault.ensures.kept
   where
-    go : (r : Result Reply Stop) → OnErr r (Keeps c.in-Some.cells.now c.fault.new.self c.self.inside.frames c.fault.new.frames c.self.inside.slots c.fault.new.slots) →
+    go : (r : Result Reply Stop) → OnErr r (Keeps c.in-Some.cells.now c.fault.new.self c.self.inside.counts.frames c.fault.new.frames c.self.inside.counts.slots c.fault.new.slots) →
         OnErr r (◌≡◌ {A = State} (record { spaces = c.get_mut.follows.lender c.fault.new.self; tables = c.self.inside.tables; limits = c.self.inside.limits; files = c.self.inside.shelf }) c.args.self.now)
     go (Ok r) k = tt
     go (Err e) k =

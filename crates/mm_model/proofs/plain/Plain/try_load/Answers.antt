@@ -53,12 +53,12 @@ invariant_of-self-2 c =
     subst (λ spaces. IsSound (record (before at.After-get_mut) { spaces = spaces }) c.load.new.frames c.load.new.slots c.self.inside.fronts) (sym (lent at.After-load))
     (go c.load.result c.load.ensures.made c.load.ensures.kept)
   where
-    go : (r : Result Reply Stop) → OnOk r (Makes c.self.inside.shelf c.in_ok-access.access c.in-Some.cells.now c.load.new.self c.self.inside.frames c.load.new.frames c.self.inside.slots c.load.new.slots) →
-        OnErr r (Keeps c.in-Some.cells.now c.load.new.self c.self.inside.frames c.load.new.frames c.self.inside.slots c.load.new.slots) →
+    go : (r : Result Reply Stop) → OnOk r (Makes c.self.inside.shelf c.in_ok-access.access c.in-Some.cells.now c.load.new.self c.self.inside.counts.frames c.load.new.frames c.self.inside.counts.slots c.load.new.slots) →
+        OnErr r (Keeps c.in-Some.cells.now c.load.new.self c.self.inside.counts.frames c.load.new.frames c.self.inside.counts.slots c.load.new.slots) →
         IsSound (record { spaces = map.insert c.self.inside.spaces c.number.result c.load.new.self; tables = c.self.inside.tables; limits = c.self.inside.limits; files = c.self.inside.shelf }) c.load.new.frames c.load.new.slots c.self.inside.fronts
     go (Ok r) m k = stays_sound (before (goal.at.invariant_of-self-2 c).After-get_mut) _ _ _ c.self.invariant c.number.result c.in-Some.cells.now (sym c.in-Some.ensures.value)
         (call.Load c.number.result c.args.at c.args.len) (reaching c.args.at c.args.len false) (load_access _ c.number.result c.args.at c.args.len) c.in_ok-access.ensures.ok c.load.new.self c.load.new.frames c.load.new.slots
-        (subst (λ a. Makes c.self.inside.shelf a c.in-Some.cells.now c.load.new.self c.self.inside.frames c.load.new.frames c.self.inside.slots c.load.new.slots) c.in_ok-access.ensures.access m)
+        (subst (λ a. Makes c.self.inside.shelf a c.in-Some.cells.now c.load.new.self c.self.inside.counts.frames c.load.new.frames c.self.inside.counts.slots c.load.new.slots) c.in_ok-access.ensures.access m)
     go (Err e) m k = same_sound (before (goal.at.invariant_of-self-2 c).After-get_mut) _ _ _ c.self.invariant c.number.result c.in-Some.cells.now (sym c.in-Some.ensures.value)
         (call.Load c.number.result c.args.at c.args.len) (reaching c.args.at c.args.len false) (load_access _ c.number.result c.args.at c.args.len) c.in_ok-access.ensures.ok c.load.new.self c.load.new.frames c.load.new.slots k
 
@@ -66,7 +66,7 @@ pub returns-clause-ok : goal.returns-clause-ok
 returns-clause-ok c = go c.load.result c.load.ensures.bytes c.load.ensures.made
   where
     go : (r : Result Reply Stop) → IfOk r (λ answer. answer ≡ reply.Bytes (loaded c.self.inside.shelf c.in-Some.cells.now c.in_ok-access.access)) →
-        OnOk r (Makes c.self.inside.shelf c.in_ok-access.access c.in-Some.cells.now c.load.new.self c.self.inside.frames c.load.new.frames c.self.inside.slots c.load.new.slots) →
+        OnOk r (Makes c.self.inside.shelf c.in_ok-access.access c.in-Some.cells.now c.load.new.self c.self.inside.counts.frames c.load.new.frames c.self.inside.counts.slots c.load.new.slots) →
         IfOk r (Accepts c.args.self.now (record { spaces = c.get_mut.follows.lender c.load.new.self; tables = c.self.inside.tables; limits = c.self.inside.limits; files = c.self.inside.shelf }) (call.Load c.args.space c.args.at c.args.len))
     go (Ok r) b m =
         let at = goal.at.returns-clause-ok c in
@@ -74,7 +74,7 @@ returns-clause-ok c = go c.load.result c.load.ensures.bytes c.load.ensures.made
         (λ i. record (before at.After-get_mut) { spaces = lent at.After-load i }) r
         (accepts (before at.After-get_mut) _ _ _ c.self.invariant c.number.result c.in-Some.cells.now (sym c.in-Some.ensures.value)
         (call.Load c.number.result c.args.at c.args.len) (reaching c.args.at c.args.len false) (load_access _ c.number.result c.args.at c.args.len) c.in_ok-access.ensures.ok c.load.new.self c.load.new.frames c.load.new.slots
-        (subst (λ a. Makes c.self.inside.shelf a c.in-Some.cells.now c.load.new.self c.self.inside.frames c.load.new.frames c.self.inside.slots c.load.new.slots) c.in_ok-access.ensures.access m) r
+        (subst (λ a. Makes c.self.inside.shelf a c.in-Some.cells.now c.load.new.self c.self.inside.counts.frames c.load.new.frames c.self.inside.counts.slots c.load.new.slots) c.in_ok-access.ensures.access m) r
         (λ thread. b ∙ ap (λ a. reply.Bytes (loaded c.self.inside.shelf c.in-Some.cells.now a)) c.in_ok-access.ensures.access
         ∙ load_answer (before at.After-get_mut) thread c.number.result c.args.at c.args.len c.in-Some.cells.now (sym c.in-Some.ensures.value)))
     go (Err e) b m = tt
@@ -82,19 +82,19 @@ returns-clause-ok c = go c.load.result c.load.ensures.bytes c.load.ensures.made
 pub returns-clause-refused : goal.returns-clause-refused
 returns-clause-refused c = go c.load.result c.load.ensures.refused
   where
-    go : (r : Result Reply Stop) → IfErr r (λ stop. IfSome (refusal_of stop) (λ answer. refused_in c.self.inside.shelf c.in-Some.cells.now c.self.inside.frames c.in_ok-access.access ≡ Some answer)) →
+    go : (r : Result Reply Stop) → IfErr r (λ stop. IfSome (refusal_of stop) (λ answer. refused_in c.self.inside.shelf c.in-Some.cells.now c.self.inside.counts.frames c.in_ok-access.access ≡ Some answer)) →
         IfErr r (λ stop. IfSome (refusal_of stop) (Refuses c.args.self.now (call.Load c.args.space c.args.at c.args.len)))
     go (Ok r) h = tt
     go (Err e) h = IfSome_then _ h (λ r is.
         refuses_named (before (goal.at.returns-clause-refused c).After-get_mut) c.args.self.now c.self.view_is c.number.result c.args.space c.number.ensures.value (λ n. call.Load n c.args.at c.args.len) r
         (refuses_inside (before (goal.at.returns-clause-refused c).After-get_mut) _ _ _ c.self.invariant c.number.result c.in-Some.cells.now (sym c.in-Some.ensures.value)
         (call.Load c.number.result c.args.at c.args.len) (reaching c.args.at c.args.len false) (load_access _ c.number.result c.args.at c.args.len) c.in_ok-access.ensures.ok r
-        (ap (refused_in c.self.inside.shelf c.in-Some.cells.now c.self.inside.frames) (sym c.in_ok-access.ensures.access) ∙ is)))
+        (ap (refused_in c.self.inside.shelf c.in-Some.cells.now c.self.inside.counts.frames) (sym c.in_ok-access.ensures.access) ∙ is)))
 
 pub returns-clause-kept : goal.returns-clause-kept
 returns-clause-kept c = go c.load.result c.load.ensures.kept
   where
-    go : (r : Result Reply Stop) → OnErr r (Keeps c.in-Some.cells.now c.load.new.self c.self.inside.frames c.load.new.frames c.self.inside.slots c.load.new.slots) →
+    go : (r : Result Reply Stop) → OnErr r (Keeps c.in-Some.cells.now c.load.new.self c.self.inside.counts.frames c.load.new.frames c.self.inside.counts.slots c.load.new.slots) →
         OnErr r (◌≡◌ {A = State} (record { spaces = c.get_mut.follows.lender c.load.new.self; tables = c.self.inside.tables; limits = c.self.inside.limits; files = c.self.inside.shelf }) c.args.self.now)
     go (Ok r) k = tt
     go (Err e) k =

@@ -61,12 +61,12 @@ invariant_of-self-2 c =
     subst (λ spaces. IsSound (record (before at.After-get_mut) { spaces = spaces }) c.store.new.frames c.store.new.slots c.self.inside.fronts) (sym (lent at.After-store))
     (go c.store.result c.store.ensures.made c.store.ensures.kept)
   where
-    go : (r : Result Reply Stop) → OnOk r (Makes c.self.inside.shelf (storing c.in_ok-access.access.at c.bytes-stored.result.now) c.in-Some.cells.now c.store.new.self c.self.inside.frames c.store.new.frames c.self.inside.slots c.store.new.slots) →
-        OnErr r (Keeps c.in-Some.cells.now c.store.new.self c.self.inside.frames c.store.new.frames c.self.inside.slots c.store.new.slots) →
+    go : (r : Result Reply Stop) → OnOk r (Makes c.self.inside.shelf (storing c.in_ok-access.access.at c.bytes-stored.result.now) c.in-Some.cells.now c.store.new.self c.self.inside.counts.frames c.store.new.frames c.self.inside.counts.slots c.store.new.slots) →
+        OnErr r (Keeps c.in-Some.cells.now c.store.new.self c.self.inside.counts.frames c.store.new.frames c.self.inside.counts.slots c.store.new.slots) →
         IsSound (record { spaces = map.insert c.self.inside.spaces c.number.result c.store.new.self; tables = c.self.inside.tables; limits = c.self.inside.limits; files = c.self.inside.shelf }) c.store.new.frames c.store.new.slots c.self.inside.fronts
     go (Ok r) m k = stays_sound (before (goal.at.invariant_of-self-2 c).After-get_mut) _ _ _ c.self.invariant c.number.result c.in-Some.cells.now (sym c.in-Some.ensures.value)
         (call.Store c.number.result c.args.at c.args.bytes.now) (storing c.args.at c.args.bytes.now) (store_access _ c.number.result c.args.at c.args.bytes.now) (user (goal.at.invariant_of-self-2 c).In_ok-access) c.store.new.self c.store.new.frames c.store.new.slots
-        (subst (λ a. Makes c.self.inside.shelf a c.in-Some.cells.now c.store.new.self c.self.inside.frames c.store.new.frames c.self.inside.slots c.store.new.slots) (λ i. storing (access_is (goal.at.invariant_of-self-2 c).In_ok-access i).at (c.bytes-stored.ensures.value i)) m)
+        (subst (λ a. Makes c.self.inside.shelf a c.in-Some.cells.now c.store.new.self c.self.inside.counts.frames c.store.new.frames c.self.inside.counts.slots c.store.new.slots) (λ i. storing (access_is (goal.at.invariant_of-self-2 c).In_ok-access i).at (c.bytes-stored.ensures.value i)) m)
     go (Err e) m k = same_sound (before (goal.at.invariant_of-self-2 c).After-get_mut) _ _ _ c.self.invariant c.number.result c.in-Some.cells.now (sym c.in-Some.ensures.value)
         (call.Store c.number.result c.args.at c.args.bytes.now) (storing c.args.at c.args.bytes.now) (store_access _ c.number.result c.args.at c.args.bytes.now) (user (goal.at.invariant_of-self-2 c).In_ok-access) c.store.new.self c.store.new.frames c.store.new.slots k
 
@@ -74,7 +74,7 @@ pub returns-clause-ok : goal.returns-clause-ok
 returns-clause-ok c = go c.store.result c.store.ensures.reply c.store.ensures.made
   where
     go : (r : Result Reply Stop) → IfOk r (λ answer. answer ≡ reply.Ok) →
-        OnOk r (Makes c.self.inside.shelf (storing c.in_ok-access.access.at c.bytes-stored.result.now) c.in-Some.cells.now c.store.new.self c.self.inside.frames c.store.new.frames c.self.inside.slots c.store.new.slots) →
+        OnOk r (Makes c.self.inside.shelf (storing c.in_ok-access.access.at c.bytes-stored.result.now) c.in-Some.cells.now c.store.new.self c.self.inside.counts.frames c.store.new.frames c.self.inside.counts.slots c.store.new.slots) →
         IfOk r (Accepts c.args.self.now (record { spaces = c.get_mut.follows.lender c.store.new.self; tables = c.self.inside.tables; limits = c.self.inside.limits; files = c.self.inside.shelf }) (call.Store c.args.space c.args.at c.args.bytes.now))
     go (Ok r) b m =
         let at = goal.at.returns-clause-ok c in
@@ -82,26 +82,26 @@ returns-clause-ok c = go c.store.result c.store.ensures.reply c.store.ensures.ma
         (λ i. record (before at.After-get_mut) { spaces = lent at.After-store i }) r
         (accepts (before at.After-get_mut) _ _ _ c.self.invariant c.number.result c.in-Some.cells.now (sym c.in-Some.ensures.value)
         (call.Store c.number.result c.args.at c.args.bytes.now) (storing c.args.at c.args.bytes.now) (store_access _ c.number.result c.args.at c.args.bytes.now) (user (goal.at.returns-clause-ok c).In_ok-access) c.store.new.self c.store.new.frames c.store.new.slots
-        (subst (λ a. Makes c.self.inside.shelf a c.in-Some.cells.now c.store.new.self c.self.inside.frames c.store.new.frames c.self.inside.slots c.store.new.slots) (λ i. storing (access_is (goal.at.returns-clause-ok c).In_ok-access i).at (c.bytes-stored.ensures.value i)) m) r
+        (subst (λ a. Makes c.self.inside.shelf a c.in-Some.cells.now c.store.new.self c.self.inside.counts.frames c.store.new.frames c.self.inside.counts.slots c.store.new.slots) (λ i. storing (access_is (goal.at.returns-clause-ok c).In_ok-access i).at (c.bytes-stored.ensures.value i)) m) r
         (λ thread. b ∙ store_answer (before at.After-get_mut) thread c.number.result c.args.at c.args.bytes.now))
     go (Err e) b m = tt
 
 pub returns-clause-refused : goal.returns-clause-refused
 returns-clause-refused c = go c.store.result c.store.ensures.refused
   where
-    go : (r : Result Reply Stop) → IfErr r (λ stop. IfSome (refusal_of stop) (λ answer. refused_in c.self.inside.shelf c.in-Some.cells.now c.self.inside.frames c.in_ok-access.access ≡ Some answer)) →
+    go : (r : Result Reply Stop) → IfErr r (λ stop. IfSome (refusal_of stop) (λ answer. refused_in c.self.inside.shelf c.in-Some.cells.now c.self.inside.counts.frames c.in_ok-access.access ≡ Some answer)) →
         IfErr r (λ stop. IfSome (refusal_of stop) (Refuses c.args.self.now (call.Store c.args.space c.args.at c.args.bytes.now)))
     go (Ok r) h = tt
     go (Err e) h = IfSome_then _ h (λ r is.
         refuses_named (before (goal.at.returns-clause-refused c).After-get_mut) c.args.self.now c.self.view_is c.number.result c.args.space c.number.ensures.value (λ n. call.Store n c.args.at c.args.bytes.now) r
         (refuses_inside (before (goal.at.returns-clause-refused c).After-get_mut) _ _ _ c.self.invariant c.number.result c.in-Some.cells.now (sym c.in-Some.ensures.value)
         (call.Store c.number.result c.args.at c.args.bytes.now) (storing c.args.at c.args.bytes.now) (store_access _ c.number.result c.args.at c.args.bytes.now) (user (goal.at.returns-clause-refused c).In_ok-access) r
-        (ap (refused_in c.self.inside.shelf c.in-Some.cells.now c.self.inside.frames) (sym (access_is (goal.at.returns-clause-refused c).In_ok-access)) ∙ is)))
+        (ap (refused_in c.self.inside.shelf c.in-Some.cells.now c.self.inside.counts.frames) (sym (access_is (goal.at.returns-clause-refused c).In_ok-access)) ∙ is)))
 
 pub returns-clause-kept : goal.returns-clause-kept
 returns-clause-kept c = go c.store.result c.store.ensures.kept
   where
-    go : (r : Result Reply Stop) → OnErr r (Keeps c.in-Some.cells.now c.store.new.self c.self.inside.frames c.store.new.frames c.self.inside.slots c.store.new.slots) →
+    go : (r : Result Reply Stop) → OnErr r (Keeps c.in-Some.cells.now c.store.new.self c.self.inside.counts.frames c.store.new.frames c.self.inside.counts.slots c.store.new.slots) →
         OnErr r (◌≡◌ {A = State} (record { spaces = c.get_mut.follows.lender c.store.new.self; tables = c.self.inside.tables; limits = c.self.inside.limits; files = c.self.inside.shelf }) c.args.self.now)
     go (Ok r) k = tt
     go (Err e) k =

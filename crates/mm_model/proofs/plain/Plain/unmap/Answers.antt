@@ -81,7 +81,7 @@ invariant_of-self-2 c =
     (full_left st n c.first-first.result c.count-count.result cells c.remove_inside.new.self c.self.inside.fronts c.forget.new.self here c.self.invariant.full c.forget.ensures.here c.forget.ensures.others) in
     subst (λ spaces. IsSound (record st { spaces = spaces; tables = c.remove_inside.new.self }) c.release.new.frames c.release.new.slots c.forget.new.self) (sym (lent c))
     (op_stays_sound st (call.Unmap n c.args.at c.args.len) n (op.Unmap c.args.at c.args.len) _ _ _ (unmap_op st n c.args.at c.args.len) (right at.After-get_mut) cells here refl
-    c.release.new.self c.remove_inside.new.self (cells_are c) (tables_are c) c.self.inside.frames c.self.inside.slots c.self.inside.fronts c.release.new.frames c.release.new.slots c.forget.new.self c.self.invariant
+    c.release.new.self c.remove_inside.new.self (cells_are c) (tables_are c) c.self.inside.counts.frames c.self.inside.counts.slots c.self.inside.fronts c.release.new.frames c.release.new.slots c.forget.new.self c.self.invariant
     0 (fits st n c.args.at c.args.len 0 (omega (arith, c.self.invariant.state.tables))) c.release.ensures.frames c.release.ensures.slots full)
 
 pub returns : goal.returns
