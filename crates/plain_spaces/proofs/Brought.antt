@@ -20,10 +20,11 @@ use Rattle.page_map.proofs.Range.{inside, outside, get-change, change_is}
 use Rattle.page_map.proofs.Owners.{same_some}
 use Rattle.space_cells.specs.declared.held.Number.TheVariants.{Frame}
 use Rattle.space_cells.specs.Cells.{with_held}
-use Rattle.plain_spaces.specs.Reach.{last_page, beyond, given, brought}
+use Rattle.plain_spaces.specs.Reach.{last_page, beyond, given, brought, wanting}
 use Rattle.plain_spaces.specs.Wants.{moving, want_of, in_frame, laid}
 use Rattle.plain_spaces.specs.declared.plan.Want.{Want}
 use Rattle.plain_spaces.proofs.Moves.{change_one, put_back}
+use Rattle.plain_spaces.proofs.Plans.{wanting_is}
 use Rattle.plain_spaces.proofs.Reach.{one_or_two}
 
 -- a page that wants nothing is on its frame, and another gets the bytes that it has
@@ -250,7 +251,51 @@ enough_far false true None u v s taken kept enough e = omega (arith, ap length k
 enough_far true true None u v s taken kept enough e = absurd (false≢true s)
 enough_far false true (Some n) u v s taken kept enough e = absurd (false≢true (sym s))
 
--- a list without the first of another is not longer
+-- where no number was taken, what is made of the counts stays
 pub none_taken : {A : Type 0} (o : Option ℕ) (f : A → List ℕ) (x y : A) → IfNone o (x ≡ y) → IfNone o (f x ≡ f y)
 none_taken None f x y e = ap f e
 none_taken (Some n) f x y e = tt
+
+-- ---- both pages
+
+-- a page that is laid has a cell
+pub laid_there : (cells : AddressSpace) (page : ℕ) (frame : Option ℕ) (want : Option Want) → IsSome (get cells page) → IfSome (in_frame page frame want) (λ e. IsSome (get cells e.0))
+laid_there cells page (Some n) (Some w) there = there
+laid_there cells page (Some n) None there = tt
+laid_there cells page None (Some w) there = tt
+laid_there cells page None None there = tt
+
+module _ (files : List (List ℕ)) (cells : AddressSpace) (owners : ℕ → ℕ) (a : Access) (some : 0 < a.len) (few : a.len ≤ 4096) (near far : Option Want) (first last : Option ℕ)
+    (near_is : option_map (want_of files owners a.write) (get cells (first_page a)) ≡ Some near)
+    (far_is : beyond a (Some None) (option_map (want_of files owners a.write) (get cells (last_page a))) ≡ Some far)
+    (near_takes : is_some first ≡ is_some near) (far_takes : is_some last ≡ is_some far) where
+  pub near_there : IsSome (get cells (first_page a))
+  near_there = wanted_there files owners a.write (get cells (first_page a)) near near_is
+
+  pub last_is_there : IsSome (get cells (last_page a))
+  last_is_there = go (cases_eq (last_page a) (first_page a))
+    where
+      go : (last_page a ≡ first_page a) ⊎ (last_page a ≡ first_page a → ⊥) → IsSome (get cells (last_page a))
+      go (inl e) = subst (λ q. IsSome (get cells q)) (sym e) near_there
+      go (inr f) = last_there files cells owners a far far_is f
+
+  -- laid one after the other
+  pub both_laid : laid (in_frame (last_page a) last far) (laid (in_frame (first_page a) first near) cells)
+      ≡ change (change cells (first_page a) 1 (λ _. option_map (given files first))) (last_page a) 1 (λ _. option_map (given files last))
+  both_laid =
+      ap (laid (in_frame (last_page a) last far)) (laid_is files cells (first_page a) first near near_there (wanted_fits files owners a.write (get cells (first_page a)) near near_is) near_takes)
+      ∙ laid_is files (change cells (first_page a) 1 (λ _. option_map (given files first))) (last_page a) last far
+      (far_there files cells owners a some few near far first last far_is near_there) (far_fits files cells owners a some few near far first last far_is) far_takes
+
+  -- the pages have the frames that they are granted
+  pub all_brought : (u v w : List ℕ) → IfSome first (λ n. u ≡ n ∷ v) → IfNone first (v ≡ u) → IfSome last (λ n. v ≡ n ∷ w) →
+      laid (in_frame (last_page a) last far) (laid (in_frame (first_page a) first near) cells) ≡ brought files (grant (wanting owners cells a) u) a cells
+  all_brought u v w taken kept then =
+      let pages = wanting_is files cells owners a some few near far near_is far_is in
+      both_laid
+      ∙ both_settled files cells owners a some few near far first last far_is (grant (wanting owners cells a) u)
+      (ap (λ l. granted (grant l u) (first_page a)) pages
+      ∙ granted_first (first_page a) (last_page a) (is_some near) (is_some far) first last u v w near_takes far_takes (λ e. ap is_some (far_nothing files cells owners a some few near far first last far_is e)) taken kept then)
+      (λ f. ap (λ l. granted (grant l u) (last_page a)) pages
+      ∙ granted_last (first_page a) (last_page a) (is_some near) (is_some far) first last u v w near_takes far_takes f taken kept then)
+      far_takes

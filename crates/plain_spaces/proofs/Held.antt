@@ -47,7 +47,7 @@ pub record IsNextHeld (cells : AddressSpace) (next end page : ℕ) (number : Num
   pub before : (q : ℕ) → next ≤ q → q < page → number_at cells q ≡ None
 
 none_found : (cells : AddressSpace) (q : ℕ) → numbered_page cells q ≡ None → number_at cells q ≡ None
-none_numbered_page cells q e = go (number_at cells q) e
+none_found cells q e = go (number_at cells q) e
   where
     go : (o : Option Number) → ◌≡◌ {A = Option (ℕ × Number)} (option_map (λ number. (q, number)) o) None → o ≡ None
     go None e = refl
@@ -61,7 +61,7 @@ is_next_held cells next end page number room e =
       low = omega (arith, at.1.0, both.0);
       high = omega (arith, at.1.1, both.0, room, at.1.0);
       there = ap (number_at cells) (sym both.0) ∙ both.1;
-      before = λ q a b. none_numbered_page cells q (at.1.3 q a (omega (arith, b, both.0)));
+      before = λ q a b. none_found cells q (at.1.3 q a (omega (arith, b, both.0)));
     }
   where
     go : {m : ℕ} (o : Option Number) → number_at cells m ≡ o → ◌≡◌ {A = Option (ℕ × Number)} (option_map (λ number. (m, number)) o) (Some (page, number)) → (m ≡ page) × (number_at cells m ≡ Some number)
@@ -69,7 +69,7 @@ is_next_held cells next end page number room e =
     go (Some n) is e = let same = same_some e in (ap (λ p. p.0) same, is ∙ ap (λ p. Some p.1) same)
 
 pub no_next_held : (cells : AddressSpace) (next end : ℕ) → None ≡ earliest next (end - next) (numbered_page cells) → (q : ℕ) → next ≤ q → q < end → number_at cells q ≡ None
-no_next_held cells next end e q a b = none_numbered_page cells q (unanswered (numbered_page cells) next (end - next) (sym e) q a (omega (arith, a, b)))
+no_next_held cells next end e q a b = none_found cells q (unanswered (numbered_page cells) next (end - next) (sym e) q a (omega (arith, a, b)))
 
 -- a page without a number doesn't move
 pub quiet_at : (way : Move) (counts : Counts) (cells : AddressSpace) (q : ℕ) → number_at cells q ≡ None → IfSome (get cells q) (λ c. passes way counts c ≡ false)

@@ -2,6 +2,7 @@ pub mod Variants
 pub mod Reach
 pub mod Moves
 pub mod Plans
+pub mod Looks
 pub mod Brought
 pub mod Taken
 pub mod Stores
@@ -10,7 +11,6 @@ pub mod Made
 pub mod Followed
 pub mod Held
 pub mod Released
-pub mod Changed
 pub mod Files
 pub mod Nexts
 pub mod Keys

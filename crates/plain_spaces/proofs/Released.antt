@@ -2,17 +2,17 @@
 use Rattle.std.proofs.Common.{◌≡◌, ℕ, zero, suc, ◌+◌, ◌-◌, ◌^◌, ◌<◌, ◌≤◌, Bool, true, false, cond, List, [], ◌∷◌, length, drop, get_or, refl, sym, ap, subst, ◌∙◌, arith}
 use Rattle.std.specs.Prelude.{Option, Some, None, nat_eq, map, slice_index}
 use Rattle.std.specs.List.{count_by, cons_option}
-use Rattle.std.specs.Option.{option_map_or, option_and_then}
+use Rattle.std.specs.Option.{option_map, option_map_or, option_and_then}
 use Rattle.std.specs.Ordering.{nat_cmp}
 use Rattle.std.specs.Cmp.{nat_cmp_total, nat_eq_equiv}
 use Rattle.std.proofs.lemmas.List.{drop_all}
-use Rattle.std.proofs.lemmas.List.Sums.{sum_by-cons, sum_by-drop_more}
+use Rattle.std.proofs.lemmas.List.Sums.{sum_by-append, sum_by-cons, sum_by-drop_more}
 use Rattle.std.specs.FinMap as fin
 use Rattle.std.specs.FinMap.{get, get-empty, same_map, nat_cmp-IsAntisymmetric}
 use Rattle.table_place.specs.Range.{within}
 use Rattle.page_map.specs.declared.cell.Cell.{Cell}
 use Rattle.page_map.specs.declared.cell.Cell.TheVariants.{Anon, File, Mapped, Swapped}
-use Rattle.page_map.specs.Cell.{frame_of, slot_of}
+use Rattle.page_map.specs.Cell.{frame_of, slot_of, with_perm}
 use Rattle.page_map.specs.Change.{change, set_at}
 use Rattle.page_map.specs.Mapping.{backed}
 use Rattle.corten_base.specs.declared.calls.Backing.{Backing}
@@ -25,10 +25,14 @@ use Rattle.plain_counts.specs.declared.counts.Counts.{Counts}
 use Rattle.plain_counts.specs.Counts.{carried, one_at, AreCounted, Follow}
 use Rattle.space_cells.specs.declared.held.Number.{Number}
 use Rattle.space_cells.specs.declared.held.Number.TheVariants.{Frame, Slot}
+use Rattle.page_runs.specs.declared.change.Change.{Change}
+use Rattle.page_runs.specs.declared.change.Effect.{Effect}
+use Rattle.page_runs.specs.declared.change.Effect.TheVariants.{Map, Unmap, Protect}
 use Rattle.space_cells.specs.Cells.{number_of, number_at, numbers_in}
+use Rattle.space_cells.specs.Changes.{all_released, cells_after, cells_after_all, made_cell, released_in}
 use Rattle.plain_spaces.specs.Copies.{AreRoomy, JoinAll}
 use Rattle.plain_spaces.specs.Numbers.{frame_in, slot_in, times, AreCarried, IsCarried, Join, Leave, LeaveAll, MayShare}
-use Rattle.plain_spaces.proofs.Followed.{carried_at, carried_set_at}
+use Rattle.plain_spaces.proofs.Followed.{carried_at, carried_set_at, same_carried}
 use Rattle.plain_spaces.proofs.Held.{IsNextHeld}
 use Rattle.plain_spaces.proofs.Taken.{AreSums, left_sums}
 
@@ -79,16 +83,16 @@ module _ (kind : Number → Option ℕ) (cells : AddressSpace) (n : ℕ) where
       omega (arith, here, front first k, quiet k (first + 1) (λ q a b. none q (omega (arith, a)) (omega (arith, b))))
 
 -- the numbers of a kind are those of cells
-abbrev pub Agree : (Number → Option ℕ) → (Cell → Option ℕ) → Type 0
+abbrev Agree : (Number → Option ℕ) → (Cell → Option ℕ) → Type 0
 Agree kind cell_number = (c : Cell) (n : ℕ) → one_at (cell_number c) n ≡ option_map_or (λ number. one_at (kind number) n) (number_of c) 0
 
-pub frames_agree : Agree frame_in frame_of
+frames_agree : Agree frame_in frame_of
 frames_agree (Anon perm) n = refl
 frames_agree (File perm file index) n = refl
 frames_agree (Mapped perm frame bytes) n = refl
 frames_agree (Swapped perm slot bytes) n = refl
 
-pub slots_agree : Agree slot_in slot_of
+slots_agree : Agree slot_in slot_of
 slots_agree (Anon perm) n = refl
 slots_agree (File perm file index) n = refl
 slots_agree (Mapped perm frame bytes) n = refl
@@ -326,3 +330,56 @@ module _ (cells : AddressSpace) (first count : ℕ) where
 pub no_numbers : (what : Backing) (perm : Perm) (i n : ℕ) → (carried_at frame_of (Some (backed what perm i)) n ≡ 0) × (carried_at slot_of (Some (backed what perm i)) n ≡ 0)
 no_numbers backing.Zero perm i n = (refl, refl)
 no_numbers (backing.File file index) perm i n = (refl, refl)
+
+-- ---- several changes
+
+module _ (kind : Number → Option ℕ) (cell_number : Cell → Option ℕ) (agree : Agree kind cell_number) (n : ℕ)
+    (backed_has_none : (what : Backing) (perm : Perm) (i : ℕ) → carried_at cell_number (Some (backed what perm i)) n ≡ 0)
+    (stays : (perm : Perm) (o : Option Cell) → carried_at cell_number (option_map (with_perm perm) o) n ≡ carried_at cell_number o n) where
+  one_change : (cells : AddressSpace) (first count : ℕ) (effect : Effect) →
+      carried cell_number n (change cells first count (λ page. made_cell effect (page - first))) + times kind (released_in effect (numbers_in cells first count)) n ≡ carried cell_number n cells
+  unfolding in_range
+  one_change cells first count (Map mark) = gone kind cell_number agree cells n first (λ page. made_cell (Map mark) (page - first)) (λ q o. backed_has_none mark.backing mark.perm (q - first)) count
+  one_change cells first count Unmap = gone kind cell_number agree cells n first (λ page. made_cell Unmap (page - first)) (λ q o. refl) count
+  one_change cells first count (Protect perm) =
+      let same = same_carried cell_number n cells first (λ page. made_cell (Protect perm) (page - first)) (λ q o. stays perm o) count in
+      omega (arith, same)
+
+  all_gone : (changes : List Change) (cells : AddressSpace) → carried cell_number n (cells_after_all cells changes) + times kind (all_released cells changes) n ≡ carried cell_number n cells
+  all_gone [] cells = omega arith
+  all_gone (c ∷ cs) cells =
+      let parts = sum_by-append (λ x. one_at (kind x) n) (released_in c.effect (numbers_in cells c.first c.count)) (all_released (cells_after cells c) cs) in
+      omega (arith, parts, one_change cells c.first c.count c.effect, all_gone cs (cells_after cells c))
+
+frames_stay : (n : ℕ) (perm : Perm) (o : Option Cell) → carried_at frame_of (option_map (with_perm perm) o) n ≡ carried_at frame_of o n
+frames_stay n perm None = refl
+frames_stay n perm (Some (Anon p)) = refl
+frames_stay n perm (Some (File p file index)) = refl
+frames_stay n perm (Some (Mapped p frame bytes)) = refl
+frames_stay n perm (Some (Swapped p slot bytes)) = refl
+
+slots_stay : (n : ℕ) (perm : Perm) (o : Option Cell) → carried_at slot_of (option_map (with_perm perm) o) n ≡ carried_at slot_of o n
+slots_stay n perm None = refl
+slots_stay n perm (Some (Anon p)) = refl
+slots_stay n perm (Some (File p file index)) = refl
+slots_stay n perm (Some (Mapped p frame bytes)) = refl
+slots_stay n perm (Some (Swapped p slot bytes)) = refl
+
+module _ (cells : AddressSpace) (changes : List Change) where
+  frames_gone : (n : ℕ) → carried frame_of n (cells_after_all cells changes) + times frame_in (all_released cells changes) n ≡ carried frame_of n cells
+  frames_gone n = all_gone frame_in frame_of frames_agree n (λ what perm i. (no_numbers what perm i n).0) (frames_stay n) changes cells
+
+  slots_gone : (n : ℕ) → carried slot_of n (cells_after_all cells changes) + times slot_in (all_released cells changes) n ≡ carried slot_of n cells
+  slots_gone n = all_gone slot_in slot_of slots_agree n (λ what perm i. (no_numbers what perm i n).1) (slots_stay n) changes cells
+
+  pub changes_are_carried : (counts : Counts) → AreCounted counts cells → AreCarried (all_released cells changes) counts
+  changes_are_carried counts ok = record {
+    frames = λ n. omega (arith, ok.frames.each n, frames_gone n);
+    slots = λ n. omega (arith, ok.slots.each n, slots_gone n);
+  }
+
+  pub changes_left : (old new : Counts) → LeaveAll (all_released cells changes) old new → Follow old new cells (cells_after_all cells changes)
+  changes_left old new left = record {
+    frames = record { numbers = left.frames.numbers_stay; counts = λ n. omega (arith, left.frames.counts n, frames_gone n) };
+    slots = record { numbers = left.slots.numbers_stay; counts = λ n. omega (arith, left.slots.counts n, slots_gone n) };
+  }

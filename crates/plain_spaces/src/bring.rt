@@ -93,7 +93,8 @@ impl Plan {
         ensures kept { OnErr result (Keeps cells.old cells.new counts.old counts.new) }
     {
         let Plan { access, near, far } = self;
-        let (near_from, far_from) = (from_of(&near), from_of(&far));
+        let near_from = from_of(&near);
+        let far_from = from_of(&far);
         let near_frame = take_frame(&mut counts.frames, near.is_some());
         let far_frame = take_frame(&mut counts.frames, far.is_some());
         let near_page = in_frame(access.first(), near_frame, near);

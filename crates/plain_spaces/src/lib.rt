@@ -13,7 +13,7 @@ mod swap;
 
 pub use access::{Access, Stop, read};
 pub use copy::{add_tables, leave, share};
-pub use mapping::{change_pages, map_pages, unmap_pages};
+pub use mapping::{apply, map_pages, unmap_pages};
 pub use plan::{Plan, Want};
 pub use spaces::Spaces;
 pub use swap::Move;

@@ -1,4 +1,4 @@
-//! Pages that are mapped and unmapped. What stood there loses its frames and swap slots.
+//! Pages that are mapped and unmapped, and several changes at once. What stood there loses its frames and swap slots.
 ghost use Rattle.std.specs.Prelude.{◌≡◌, ◌+◌, ◌-◌, ◌<◌, ◌^◌, Some, None, OnOk, OnErr};
 ghost use Rattle.std.specs.List.{All};
 ghost use Rattle.page_map.specs.Change.{change};
@@ -54,8 +54,8 @@ pub fn unmap_pages(
     Ok(())
 }
 
-/// Maps, unmaps and protects the pages of several ranges, one after the other, all or none.
-pub fn change_pages(
+/// Maps, unmaps and protects pages of several ranges, one after the other, all or none.
+pub fn apply(
     alloc: Global,
     cells: &mut AddressSpace,
     counts: &mut Counts,

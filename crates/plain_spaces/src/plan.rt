@@ -208,11 +208,18 @@ impl Access {
     }
 }
 
+/// 1 where a frame is wanted.
+fn one_if(wanted: bool) -> u32
+    ensures { result ≡ cond wanted 1 0 }
+{
+    if wanted { 1 } else { 0 }
+}
+
 impl Plan {
     /// How many frames are wanted.
     pub fn frames(&self) -> u32
         ensures { IsNeed self.now result }
     {
-        u32::from(self.near.is_some()) + u32::from(self.far.is_some())
+        one_if(self.near.is_some()) + one_if(self.far.is_some())
     }
 }

@@ -5,7 +5,7 @@
 --     cleared_at, cleared_cells      pages that are let go of
 --     mapped_cells, unmapped_cells, protected_cells      the pages of a range that are mapped, unmapped and protected;  with .._have_marks, that what is held still lies over marks
 --     held_cells, renumbered_cells, overwritten_cells, let_go_cells      one page that is held, gets another number, is written, and is let go
-use Rattle.std.proofs.Common.{◌≡◌, ◌≢◌, ℕ, ◌+◌, ◌-◌, ◌<◌, ◌≤◌, Bool, true, false, cond, List, refl, sym, ap, ◌∙◌, arith}
+use Rattle.std.proofs.Common.{◌≡◌, ◌≢◌, ℕ, ◌+◌, ◌-◌, Bool, true, false, cond, List, refl, sym, ap, ◌∙◌, arith}
 use mathlib.Core.Bool.{true≢false}
 use mathlib.Core.Logic.{◌⊎◌, inl, inr}
 use Rattle.std.specs.Prelude.{Option, Some, None, IfSome, IfNone, IsSome, is_some, Result, Ok, Err, OnOk, OnErr}

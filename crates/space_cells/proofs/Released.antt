@@ -34,7 +34,7 @@ use Rattle.space_cells.specs.declared.held.Number.{Number}
 use Rattle.space_cells.specs.declared.held.HeldPage.{HeldPage}
 use Rattle.space_cells.specs.Held.{HeldPages, held_at, number_held}
 use Rattle.space_cells.specs.Cells.{HaveMarks, cells_of, number_at, number_of}
-use Rattle.space_cells.specs.Changes.{all_released, cells_after, cells_after_all, frees, left, made_cell, released_by, released_in, released_of, releases}
+use Rattle.space_cells.specs.Changes.{all_released, cells_after, cells_after_all, frees, left, made_cell, released_by, released_of, releases}
 use Rattle.space_cells.proofs.Seen.{cells_are, get_cells, over}
 use Rattle.space_cells.proofs.Changing.{backed_on, over_protected}
 

@@ -2,7 +2,7 @@ pub mod Covering
 pub mod Leasts
 pub mod Judging
 pub mod Needing
-pub mod Changes
+pub mod Changed
 pub mod Added
 pub mod Unmapping
 pub mod Rights

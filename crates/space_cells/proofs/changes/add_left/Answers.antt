@@ -1,4 +1,4 @@
-use Rattle.std.proofs.Common.{◌≡◌, ◌+◌, ◌-◌, ◌++◌, cond, Some, None, sym, ap, ◌∙◌, arith}
+use Rattle.std.proofs.Common.{◌≡◌, ◌+◌, ◌-◌, ◌++◌, cond, None, sym, ap, ◌∙◌, arith}
 use Rattle.std.specs.List.{cons_option, filter_map, range_with_len}
 use Rattle.space_cells.specs.Held.{number_held}
 use Rattle.space_cells.specs.Changes.{left}

@@ -9,7 +9,7 @@ use Rattle.page_map.specs.Mapping.{op_pages, after_ops}
 use Rattle.page_map.specs.State.{State}
 use Rattle.plain_spaces.proofs.Moves.{put_back}
 use Rattle.plain_spaces.proofs.Variants.{some_borrow}
-use Rattle.txn_plan.specs.Applies.{first_index}
+use Rattle.txn_plan.specs.Changes.{first_index}
 use Rattle.txn_plan.specs.Forgetting.{Forgets}
 use Rattle.txn_plan.specs.Needs.{IsInSpan}
 use Rattle.mm_model.specs.Plain.{IsSound}

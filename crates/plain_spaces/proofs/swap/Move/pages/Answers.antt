@@ -11,15 +11,15 @@ use Rattle.plain_spaces.proofs.swap.Move.pages.Goals.{In-Some}
 abbrev at : (c : In-Some) → IsNextHeld c.args.cells.now c.loop-page.next (c.args.first + c.args.count) c.in-Some.page c.in-Some.number
 at c = is_next_held c.args.cells.now c.loop-page.next (c.args.first + c.args.count) c.in-Some.page c.in-Some.number c.loop-page.invariant.high c.in-Some.ensures
 
-pub one-requires : goal.one-requires
-one-requires c =
-    let here = cell_at c.args.cells.now c.in-Some.page c.in-Some.number (at (goal.at.one-requires c).In-Some).there in
+pub one-pages-requires : goal.one-pages-requires
+one-pages-requires c =
+    let here = cell_at c.args.cells.now c.in-Some.page c.in-Some.number (at (goal.at.one-pages-requires c).In-Some).there in
     number_is_carried c.args.counts.now c.args.cells.now c.in-Some.page here.0 c.in-Some.number c.requires.counted here.1.0 here.1.1
 
 pub overflow_add-pages : goal.overflow_add-pages
 overflow_add-pages c =
     let next = at (goal.at.overflow_add-pages c).In-Some in
-    omega (arith, next.low, next.high, c.requires.fits, c.loop-page.invariant.few, c.one.ensures, one_at_most c.args.self c.args.counts.now c.in-Some.number)
+    omega (arith, next.low, next.high, c.requires.fits, c.loop-page.invariant.few, c.one-pages.ensures, one_at_most c.args.self c.args.counts.now c.in-Some.number)
 
 pub overflow_add-next : goal.overflow_add-next
 overflow_add-next c = omega (arith, (at (goal.at.overflow_add-next c).In-Some).high, c.requires.fits)
@@ -38,8 +38,8 @@ loop-page-preserved c =
     record {
       low = omega (arith, was.low, next.low);
       high = omega (arith, next.high);
-      few = omega (arith, was.low, next.low, was.few, c.one.ensures, most);
-      counted = omega (arith, was.counted, c.one.ensures, counted_next c.args.self c.args.counts.now c.args.cells.now _ _ _ _ next);
+      few = omega (arith, was.low, next.low, was.few, c.one-pages.ensures, most);
+      counted = omega (arith, was.counted, c.one-pages.ensures, counted_next c.args.self c.args.counts.now c.args.cells.now _ _ _ _ next);
     }
 
 pub returns : goal.returns

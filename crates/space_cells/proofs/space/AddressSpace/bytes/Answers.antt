@@ -1,8 +1,7 @@
-use Rattle.std.proofs.Common.{◌≡◌, List, ℕ, [], Option, Some, sym, ap, ◌∙◌}
+use Rattle.std.proofs.Common.{List, ℕ, [], Option, ap, ◌∙◌}
 use Rattle.std.specs.Option.{option_map_or}
 use Rattle.std.specs.FinMap as map
 use Rattle.space_cells.specs.declared.held.HeldPage.{HeldPage}
-use Rattle.space_cells.specs.Held.{held_at}
 use Rattle.space_cells.specs.Cells.{bytes_of, framed}
 use Rattle.space_cells.proofs.Seen.{bytes_seen}
 use Rattle.space_cells.proofs.space.AddressSpace.bytes.Goals as goal

@@ -1,8 +1,8 @@
-use Rattle.std.proofs.Common.{sym, subst, ◌∙◌}
+use Rattle.std.proofs.Common.{◌≡◌, sym, subst, ◌∙◌}
 use Rattle.plain_counts.specs.Counts.{Follow}
 use Rattle.plain_spaces.specs.Numbers.{AreCarried, LeaveAll}
-use Rattle.plain_spaces.proofs.Changed.{changes_are_carried, changes_left}
-use Rattle.plain_spaces.proofs.mapping.change_pages.Goals as goal
+use Rattle.plain_spaces.proofs.Released.{changes_are_carried, changes_left}
+use Rattle.plain_spaces.proofs.mapping.apply.Goals as goal
 
 pub give_up_all-requires : goal.give_up_all-requires
 give_up_all-requires c =
