@@ -1,6 +1,7 @@
 -- An access to a space that is present: what it may rely on, and what it leaves.
 use Rattle.std.proofs.Common.{◌≡◌, ℕ, ◌+◌, ◌<◌, ◌≤◌, Bool, true, false, cond, not, ◌&&◌, List, [], length, refl, sym, ap, subst, ◌∙◌, arith}
 use Rattle.std.specs.Prelude.{Option, Some, None, Result, Ok, Err, IfOk, IfSome, IsSome, is_some, nat_eq, slice_index}
+use Rattle.std.specs.declared.alloc.AllocError.{AllocError}
 use Rattle.std.specs.Option.{unwrap_or}
 use Rattle.std.specs.FinMap as fin
 use Rattle.std.specs.FinMap.{get}
@@ -11,7 +12,7 @@ use Rattle.table_place.specs.Range.{within}
 use Rattle.page_map.specs.declared.cell.Cell.{Cell}
 use Rattle.page_map.specs.declared.cell.Cell.TheVariants.{Anon, File, Mapped, Swapped}
 use Rattle.page_map.specs.Change.{keys_in}
-use Rattle.page_map.specs.State.{State, AddressSpace, IsConsistent, frame_owners, linked, space_at, unused_frames}
+use Rattle.page_map.specs.State.{State, AddressSpace, IsConsistent, frame_owners, is_present, linked, space_at, unused_frames}
 use Rattle.page_map.specs.Takes.{grant}
 use Rattle.page_map.specs.Access.{Access, first_page, page_count, outside_user_pages, refused_access, refused_at, wants_frame, wanting_frames, after_access, loaded}
 use Rattle.page_map.specs.Effect.{answer}
@@ -89,11 +90,11 @@ module _ (st : State) (counts : Counts) (fronts : List ℕ) (sound : IsSound st 
 
   -- what a plan says by the counts and by the state
   pub plan_is : (plan : Plan) → IsPlan st.files cells (slice_index counts.frames) plan → IsPlan st.files (space_at st space) (frame_owners st) plan
-  plan_is plan h = subst (λ x. IsPlan st.files x.0 x.1 plan) (λ i. (sym (cells_here st counts fronts sound space cells here) i, frames_are st counts fronts sound i)) h
+  plan_is plan h = subst (λ (x : AddressSpace × (ℕ → ℕ)). IsPlan st.files x.0 x.1 plan) (λ i. (sym (cells_here st counts fronts sound space cells here) i, frames_are st counts fronts sound i)) h
 
   module _ (plan : Plan) (ready : IsReady st space plan) where
     pub planned_here : IsPlan st.files cells (slice_index counts.frames) plan
-    planned_here = subst (λ x. IsPlan st.files x.0 x.1 plan) (λ i. (cells_here st counts fronts sound space cells here i, sym (frames_are st counts fronts sound) i)) ready.planned
+    planned_here = subst (λ (x : AddressSpace × (ℕ → ℕ)). IsPlan st.files x.0 x.1 plan) (λ i. (cells_here st counts fronts sound space cells here i, sym (frames_are st counts fronts sound) i)) ready.planned
 
     pub enough_here : length (wanting (slice_index counts.frames) cells plan.access) ≤ length (unused_of counts.frames)
     enough_here = omega (arith, ready.allowed.frames, ap length (wanting_is plan.access), ap length (free_frames st counts fronts sound))
@@ -144,8 +145,24 @@ loaded_stays st space a none =
     ∙ ap (λ m. loaded st.files m a) (sym (brought_after st.files (space_at st space) a grants none))
     ∙ loaded_brought st.files (space_at st space) a grants
 
--- the step of a call that is refused, or without memory none
-pub step_stopped : (st st' : State) (c : Call) (space : ℕ) (a : Access) → IsAccess st c space a → (stop : Stop) → IfSome (refusal_of stop) (Refuses st c) → st' ≡ st →
-    IfOk (stopped stop) (λ r. (thread limbo : ℕ) → linked st + limbo ≤ st.limits.tables → (r, st') ≡ step st thread c limbo)
-step_stopped st st' c space a is (Refused r) h same = λ thread limbo legal. step_refused st c space a is thread limbo legal r h st' same
-step_stopped st st' c space a is NoMemory h same = tt
+-- the space is there afterwards
+pub reach_present : (st : State) (space : ℕ) (a : Access) → is_present (after_reach st space a) space ≡ true
+reach_present st space a =
+    ap is_some (get_inserted st.spaces space (after_access st.files (grant (wanting_frames st (space_at st space) a) (unused_frames st)) a (space_at st space)))
+
+-- The step of a call that makes an access, under its own name.
+module _ (st st' : State) (c named : Call) (name : c ≡ named) (space : ℕ) (a : Access) (is : IsAccess st c space a) where
+  pub made_named : IsAllowed st space a → st' ≡ after_reach st space a → (r : Reply) → ((thread : ℕ) → r ≡ answer st thread c) →
+      (thread limbo : ℕ) → linked st + limbo ≤ st.limits.tables → (r, st') ≡ step st thread named limbo
+  made_named ok after r says thread limbo legal = step_made st c space a is thread limbo legal ok st' after r (says thread) ∙ ap (λ c. step st thread c limbo) name
+
+  -- without memory there is none
+  pub stopped_named : (stop : Stop) → IfSome (refusal_of stop) (λ r. (c : Call) → IsAccess st c space a → Refuses st c r) → st' ≡ st → (outcome : Result Reply AllocError) → outcome ≡ stopped stop →
+      IfOk outcome (λ r. (thread limbo : ℕ) → linked st + limbo ≤ st.limits.tables → (r, st') ≡ step st thread named limbo)
+  stopped_named stop h same outcome outcome_is =
+      subst (λ o. IfOk o (λ r. (thread limbo : ℕ) → linked st + limbo ≤ st.limits.tables → (r, st') ≡ step st thread named limbo)) (sym outcome_is) (go stop h)
+    where
+      go : (stop : Stop) → IfSome (refusal_of stop) (λ r. (c : Call) → IsAccess st c space a → Refuses st c r) →
+          IfOk (stopped stop) (λ r. (thread limbo : ℕ) → linked st + limbo ≤ st.limits.tables → (r, st') ≡ step st thread named limbo)
+      go (Refused r) h = λ thread limbo legal. step_refused st c space a is thread limbo legal r (h c is) st' same ∙ ap (λ c. step st thread c limbo) name
+      go NoMemory h = tt
