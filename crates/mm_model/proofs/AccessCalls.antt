@@ -1,6 +1,6 @@
 -- An access to a space that is present: what it may rely on, and what it leaves.
-use Rattle.std.proofs.Common.{◌≡◌, ℕ, ◌+◌, ◌<◌, ◌≤◌, Bool, true, false, cond, not, ◌&&◌, List, [], length, refl, sym, ap, subst, ◌∙◌, arith}
-use Rattle.std.specs.Prelude.{Option, Some, None, Result, Ok, Err, IfOk, IfSome, IsSome, is_some, nat_eq, slice_index}
+use Rattle.std.proofs.Common.{◌≡◌, ℕ, ◌+◌, ◌<◌, ◌≤◌, Bool, true, List, [], length, refl, sym, ap, subst, ◌∙◌, arith}
+use Rattle.std.specs.Prelude.{Option, Some, None, Result, IfOk, IfSome, IsSome, is_some, slice_index}
 use Rattle.std.specs.declared.alloc.AllocError.{AllocError}
 use Rattle.std.specs.Option.{unwrap_or}
 use Rattle.std.specs.FinMap as fin
@@ -23,7 +23,7 @@ use Rattle.page_map.proofs.Steps.{not_none}
 use Rattle.page_map.proofs.StepKeeps.{step_keeps}
 use Rattle.plain_counts.specs.declared.counts.Counts.{Counts}
 use Rattle.plain_counts.specs.Owners.{unused_of}
-use Rattle.plain_spaces.specs.Reach.{brought, making, wants, wanting, last_page, IsResident, Makes}
+use Rattle.plain_spaces.specs.Reach.{making, wants, wanting, last_page, IsResident, Makes}
 use Rattle.plain_spaces.specs.Wants.{refusal_of, IsPlan}
 use Rattle.plain_spaces.specs.declared.access.Stop.{Stop}
 use Rattle.plain_spaces.specs.declared.access.Stop.TheVariants.{Refused, NoMemory}

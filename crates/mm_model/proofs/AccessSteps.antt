@@ -1,7 +1,7 @@
 -- The step of a call that makes an access.
 use Rattle.std.proofs.Common.{◌≡◌, ℕ, ◌+◌, ◌<◌, ◌≤◌, Bool, true, false, cond, not, ◌&&◌, List, [], ◌∷◌, length, refl, sym, ap, ◌∙◌, arith}
 use Rattle.std.specs.Prelude.{Option, Some, None, is_some, nat_lt}
-use Rattle.std.specs.Option.{option_or, unwrap_or}
+use Rattle.std.specs.Option.{option_or}
 use Rattle.std.proofs.lemmas.Bool.{le-ltb, lt-ltb}
 use Rattle.std.specs.FinMap as fin
 use Rattle.std.specs.FinMap.{get}
@@ -13,12 +13,12 @@ use Rattle.corten_base.specs.declared.calls.Reply.{Reply}
 use Rattle.corten_base.specs.declared.calls.Reply.TheVariants as reply
 use Rattle.table_place.specs.declared.Place.{Place}
 use Rattle.table_place.specs.Place.{place_cmp}
-use Rattle.page_map.specs.State.{State, AddressSpace, linked, is_present, space_at, unused_frames, unused_slots}
+use Rattle.page_map.specs.State.{State, linked, is_present, space_at, unused_frames, unused_slots}
 use Rattle.page_map.specs.Takes.{grant}
 use Rattle.page_map.specs.Tables.{Tables, need, changed_tables}
 use Rattle.page_map.specs.Access.{Access, outside_user_pages, refused_access, wanting_frames, after_access, loaded}
 use Rattle.page_map.specs.Effect.{wanted_tables, is_given_up, state_after, answer}
-use Rattle.page_map.specs.Step.{step, refusal, first_refusal, refused_unless, no_tables, no_frames, no_swap}
+use Rattle.page_map.specs.Step.{step, refusal, first_refusal, refused_unless, no_tables, no_swap}
 use Rattle.page_map.proofs.Places.{place_total, place_exact}
 use Rattle.page_map.proofs.Evaluate.{union_empty, alike, difference_empty}
 use Rattle.page_map.proofs.Steps.{accepted, refused}

@@ -1,21 +1,21 @@
 -- Counts of owners as lists.
-use Rattle.std.proofs.Common.{◌≡◌, ℕ, zero, suc, ◌+◌, ◌≤◌, List, ◌∷◌, length, replicate, get_or, refl, sym, ap, ◌∙◌, arith}
-use Rattle.std.specs.Prelude.{Option, map, nat_eq}
-use Rattle.std.specs.List.{range_with_len, filter, sum_by, count_by}
+use Rattle.std.proofs.Common.{◌≡◌, ℕ, zero, suc, ◌+◌, ◌≤◌, List, ◌∷◌, length, replicate, refl, sym, ap, arith}
+use Rattle.std.specs.Prelude.{Option, map}
+use Rattle.std.specs.List.{range_with_len, sum_by, count_by}
 use Rattle.std.specs.Option.{option_map_or}
 use Rattle.std.specs.Ordering.{nat_cmp}
 use Rattle.std.specs.Cmp.{nat_cmp_total}
 use Rattle.std.specs.FinMap as fin
 use Rattle.std.specs.FinMap.{get-empty}
-use Rattle.std.proofs.lemmas.List.FromFn.{length-map-range_with_len, get_or-map-range_with_len}
+use Rattle.std.proofs.lemmas.List.FromFn.{length-map-range_with_len}
 use Rattle.corten_base.specs.declared.numbers.Limits.{Limits}
 use Rattle.page_map.specs.declared.cell.Cell.{Cell}
-use Rattle.page_map.specs.State.{AddressSpace, start, owners, carries, unused}
+use Rattle.page_map.specs.State.{AddressSpace, start, owners, carries}
 use Rattle.page_map.proofs.Weights.{weight_insert}
 use Rattle.page_map.proofs.Evaluate.{entries_empty}
 use Rattle.plain_counts.specs.Owners.{unused_of}
 use Rattle.mm_model.specs.Plain.{owner_counts}
-use Rattle.plain_counts.proofs.Tally.{same_filter, length-unused}
+use Rattle.plain_counts.proofs.Tally.{length-unused}
 
 nothing_carried : {X : Type 0} (w : X → ℕ) → sum_by w (fin.values (fin.empty {K = ℕ} {X = X} {R = nat_cmp})) ≡ 0
 nothing_carried w = ap (λ es. sum_by w (map (λ e. e.1) es)) (entries_empty nat_cmp)

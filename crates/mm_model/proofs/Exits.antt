@@ -1,22 +1,19 @@
 -- The step of a call that removes a space.
 use Rattle.std.proofs.Common.{◌≡◌, ℕ, ◌+◌, ◌-◌, ◌<◌, ◌≤◌, ◌^◌, Bool, true, false, cond, List, [], ◌∷◌, length, refl, sym, ap, subst, ◌∙◌, arith}
-use mathlib.Core.Logic.{inl, inr}
 use Rattle.std.specs.Prelude.{Option, Some, None, is_some, nat_eq, nat_le, nat_lt, min}
 use Rattle.std.specs.Option.{option_or, unwrap_or}
 use Rattle.std.specs.List.{sum_by, count_by}
 use Rattle.std.specs.Ordering.{nat_cmp}
 use Rattle.std.specs.Cmp.{nat_cmp_total, unsigned_tied}
-use Rattle.std.proofs.lemmas.Bool.{le-ltb, eqb-true, eqb-false, leb-true, cases_lt}
+use Rattle.std.proofs.lemmas.Bool.{le-ltb, eqb-true, eqb-false, leb-true}
 use Rattle.std.specs.FinMap as fin
-use Rattle.std.specs.FinMap.{get, get-empty, get-remove, same_map, nat_cmp-IsAntisymmetric}
+use Rattle.std.specs.FinMap.{get, get-remove, same_map, nat_cmp-IsAntisymmetric}
 use Rattle.std.specs.FinSet as set
 use Rattle.corten_base.specs.declared.calls.Call.TheVariants as call
 use Rattle.corten_base.specs.declared.calls.Reply.{Reply}
 use Rattle.corten_base.specs.declared.calls.Reply.TheVariants as reply
-use Rattle.table_place.specs.Range.{within}
 use Rattle.page_map.specs.declared.cell.Cell.{Cell}
 use Rattle.page_map.specs.Cell.{frame_of, slot_of}
-use Rattle.page_map.specs.Change.{change}
 use Rattle.page_map.specs.Mapping.{arena_first}
 use Rattle.page_map.specs.State.{State, AddressSpace, IsConsistent, linked, is_present, space_at, carries, owners, unused_frames, unused_slots}
 use Rattle.page_map.specs.Tables.{Tables, need}
@@ -25,13 +22,12 @@ use Rattle.page_map.specs.Step.{step, refusal, first_refusal, refused_unless, no
 use Rattle.page_map.proofs.Evaluate.{union_empty}
 use Rattle.page_map.proofs.Owners.{weight_at}
 use Rattle.page_map.proofs.Places.{place_total, place_exact}
-use Rattle.page_map.proofs.Range.{get-change, outside}
 use Rattle.page_map.proofs.Steps.{accepted, refused}
 use Rattle.page_map.proofs.StepKeeps.{step_keeps}
 use Rattle.plain_counts.specs.Fronts.{AreFull, IsFull, full_pages, full_before}
 use Rattle.plain_counts.specs.Levels.{is_elsewhere}
 use Rattle.plain_counts.specs.declared.counts.Counts.{Counts}
-use Rattle.plain_counts.specs.Counts.{carried, Follow, Follows}
+use Rattle.plain_counts.specs.Counts.{Follow, Follows}
 use Rattle.plain_spaces.proofs.Released.{nothing_carried}
 use Rattle.mm_model.specs.Plain.{IsSound, owner_counts}
 use Rattle.mm_model.proofs.AccessSteps.{no_need}

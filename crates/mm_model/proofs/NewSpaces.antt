@@ -1,13 +1,13 @@
 -- A new space: what its numbers do to the counts, and what stays as it was.
-use Rattle.std.proofs.Common.{◌≡◌, ℕ, zero, suc, ◌+◌, ◌-◌, ◌<◌, ◌≤◌, Bool, true, false, cond, not, List, [], ◌∷◌, length, get_or, Bor, refl, sym, ap, subst, ◌∙◌, arith}
+use Rattle.std.proofs.Common.{◌≡◌, ℕ, ◌+◌, ◌-◌, ◌≤◌, Bool, true, false, cond, not, List, [], ◌∷◌, Bor, refl, sym, ap, subst, ◌∙◌, arith}
 use mathlib.Core.Bool.{true≢false}
-use mathlib.Core.Logic.{◌⊎◌, inl, inr}
-use Rattle.std.specs.Prelude.{Option, Some, None, IsSome, ◌||◌, ◌&&◌, is_some, nat_eq, slice_index}
+use mathlib.Core.Logic.{inl, inr}
+use Rattle.std.specs.Prelude.{Option, Some, None, IsSome, ◌||◌, ◌&&◌, is_some, nat_eq}
 use Rattle.std.specs.Option.{option_map_or, option_copied, unwrap_or}
 use Rattle.std.specs.List.{count_by}
 use Rattle.std.specs.Ordering.{nat_cmp, eq_by_cmp}
 use Rattle.std.specs.Cmp.{nat_cmp_total, nat_eq_equiv, unsigned_tied}
-use Rattle.std.proofs.lemmas.Bool.{cases_lt, or_cases, eqb-true}
+use Rattle.std.proofs.lemmas.Bool.{or_cases, eqb-true}
 use Rattle.std.specs.FinMap as fin
 use Rattle.std.specs.FinMap.{get, get-empty, get-insert}
 use Rattle.std.specs.FinSet as set
@@ -18,7 +18,7 @@ use Rattle.table_place.specs.declared.Place.{Place}
 use Rattle.table_place.specs.Place.{place_cmp, root, above}
 use Rattle.page_map.specs.declared.cell.Cell.{Cell}
 use Rattle.page_map.specs.Cell.{frame_of, slot_of}
-use Rattle.page_map.specs.State.{State, AddressSpace, IsConsistent, space_at, cell_at, carries, owners}
+use Rattle.page_map.specs.State.{State, AddressSpace, IsConsistent, space_at, carries, owners}
 use Rattle.page_map.specs.Tables.{Tables, need}
 use Rattle.page_map.proofs.Places.{place_total, place_exact}
 use Rattle.page_map.proofs.Steps.{not_none}

@@ -1,8 +1,8 @@
 -- The step of a call that moves pages to swap or back.
 use Rattle.std.proofs.Common.{◌≡◌, ℕ, ◌+◌, ◌/◌, ◌<◌, ◌≤◌, Bool, true, false, cond, List, [], ◌∷◌, length, refl, sym, ap, subst, ◌∙◌, arith}
 use mathlib.Core.Bool.{true≢false}
-use Rattle.std.specs.Prelude.{Option, Some, None, IsSome, is_some, nat_eq, nat_lt, slice_index}
-use Rattle.std.specs.Option.{option_or, option_map, unwrap_or}
+use Rattle.std.specs.Prelude.{Option, Some, None, IsSome, is_some, nat_eq, nat_lt}
+use Rattle.std.specs.Option.{option_or, option_map}
 use Rattle.std.proofs.lemmas.Bool.{le-ltb, lt-ltb}
 use Rattle.std.specs.FinMap as fin
 use Rattle.std.specs.FinMap.{get}
@@ -16,11 +16,11 @@ use Rattle.page_map.specs.declared.cell.Cell.{Cell}
 use Rattle.page_map.specs.declared.cell.Cell.TheVariants.{Anon, File, Mapped, Swapped}
 use Rattle.page_map.specs.Change.{keys_in}
 use Rattle.page_map.specs.Cell.{frame_of, slot_of}
-use Rattle.page_map.specs.State.{State, AddressSpace, IsConsistent, linked, is_present, space_at, cell_at, frame_owners, slot_owners, unused_frames, unused_slots}
-use Rattle.page_map.specs.Swap.{goes_out, comes_in, out_to, in_to, moved, moved_to}
+use Rattle.page_map.specs.State.{State, AddressSpace, IsConsistent, linked, is_present, space_at, unused_frames, unused_slots}
+use Rattle.page_map.specs.Swap.{goes_out, comes_in, moved, moved_to}
 use Rattle.page_map.specs.Takes.{Grant, grant, granted}
 use Rattle.page_map.specs.Tables.{need}
-use Rattle.page_map.specs.Effect.{wanted_tables, is_given_up, spaces_after, state_after, answer, slot_grants, frame_grants}
+use Rattle.page_map.specs.Effect.{wanted_tables, is_given_up, spaces_after, state_after, answer}
 use Rattle.page_map.specs.Step.{step, refusal, first_refusal, refused_unless, arguments, no_space, no_spaces, no_place, pages, no_tables, no_frames, no_swap}
 use Rattle.page_map.proofs.Steps.{accepted, refused}
 use Rattle.page_map.proofs.StepKeeps.{step_keeps}

@@ -4,7 +4,7 @@
 --     IsAllowed, IsReady      whether nothing refuses the access;  with what its pages want
 --     after_reach      the state after it
 --     stopped      the reply to a call that is refused; without memory there is none
-use Rattle.std.specs.Prelude.{◌≡◌, ℕ, ◌+◌, ◌≤◌, Bool, true, false, List, [], length, Result, Ok, Err, Some, None, alloc_error}
+use Rattle.std.specs.Prelude.{◌≡◌, ℕ, ◌+◌, ◌≤◌, true, false, [], length, Result, Ok, Err, Some, None, alloc_error}
 use Rattle.std.specs.declared.alloc.AllocError.{AllocError}
 use Rattle.std.specs.FinMap as map
 use Rattle.corten_base.specs.declared.calls.Call.{Call}

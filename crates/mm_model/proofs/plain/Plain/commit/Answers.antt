@@ -1,4 +1,4 @@
-use Rattle.std.proofs.Common.{◌≡◌, ℕ, ◌+◌, ◌^◌, ◌<◌, List, Some, None, refl, sym, ap, subst, MutBor, ◌∙◌}
+use Rattle.std.proofs.Common.{◌≡◌, ◌+◌, ◌^◌, ◌<◌, Some, None, refl, sym, ap, subst, MutBor, ◌∙◌}
 use Rattle.std.specs.Prelude.{Option, IsSome, Result, Ok, Err, OnErr}
 use Rattle.std.specs.List.{All, flat_map}
 use Rattle.std.specs.Option.{option_copied_mut}

@@ -1,11 +1,11 @@
-use Rattle.std.proofs.Common.{◌≡◌, ◌/◌, true, Some, refl, sym, ap, subst, ◌∙◌, arith}
+use Rattle.std.proofs.Common.{◌≡◌, ◌/◌, true, refl, sym, ap, subst, ◌∙◌, arith}
 use Rattle.std.specs.Option.{OnSome}
 use Rattle.std.specs.FinMap as map
 use Rattle.corten_base.specs.declared.calls.Reply.TheVariants as reply
 use Rattle.table_place.specs.Place.{is_page_range, pages_of}
 use Rattle.page_map.specs.State.{State}
 use Rattle.plain_spaces.proofs.Moves.{put_back}
-use Rattle.mm_model.specs.Moves.{move_call, too_few}
+use Rattle.mm_model.specs.Moves.{move_call}
 use Rattle.mm_model.specs.Plain.{IsSound}
 use Rattle.mm_model.proofs.Kept.{counted_here}
 use Rattle.mm_model.proofs.OpCalls.{no_range, named}

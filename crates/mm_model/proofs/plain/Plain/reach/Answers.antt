@@ -1,10 +1,10 @@
-use Rattle.std.proofs.Common.{◌≡◌, ℕ, List, [], Some, None, refl, sym, ap, subst, MutBor, ◌∙◌}
-use Rattle.std.specs.Prelude.{Option, IsSome, Result, Ok, Err, OnOk, OnErr, slice_index}
+use Rattle.std.proofs.Common.{◌≡◌, ℕ, List, Some, None, refl, sym, ap, subst, MutBor, ◌∙◌}
+use Rattle.std.specs.Prelude.{Option, IsSome, Result, Ok, Err, OnOk, OnErr}
 use Rattle.std.specs.declared.alloc.AllocError.{AllocError}
 use Rattle.std.specs.Option.{option_copied_mut, unwrap_or}
 use Rattle.std.specs.FinMap as map
 use Rattle.corten_base.specs.declared.calls.Call.{Call}
-use Rattle.page_map.specs.State.{State, AddressSpace, space_at}
+use Rattle.page_map.specs.State.{State, AddressSpace}
 use Rattle.plain_counts.specs.declared.counts.Counts.{Counts}
 use Rattle.plain_spaces.specs.Numbers.{Keeps}
 use Rattle.plain_spaces.specs.Reach.{making, IsResident}
