@@ -41,7 +41,7 @@ use Rattle.page_map.proofs.Owners.{same_some}
 use Rattle.page_map.proofs.Least.{answered, least_passes, none_below_least, unanswered}
 use Rattle.page_map.proofs.Mappings.{page_range, gap_user}
 use Rattle.page_map.proofs.Memory.{loaded_is}
-use Rattle.mm_model.proofs.Bounds.{few_pass}
+use Rattle.page_map.proofs.Bounds.{few_pass}
 use Rattle.mm_script.specs.CallLine.{IsCall, IsAccess}
 use Rattle.mm_script.specs.ScriptText.{AreLimits}
 use Rattle.history_lines.specs.Replies.{IsReply, IsWhy}

@@ -1,111 +1,168 @@
--- A call that makes an access to a space that is present: what it may rely on, and what it leaves.
-use Rattle.std.proofs.Common.{◌≡◌, ℕ, ◌+◌, ◌≤◌, List, refl, sym, ap, subst, ◌∙◌, arith}
-use Rattle.std.specs.Prelude.{Some, None, Result, Ok, Err, IfOk, IfErr, OnErr, IfSome, IsSome}
+-- An access to a space that is present: what it may rely on, and what it leaves.
+use Rattle.std.proofs.Common.{◌≡◌, ℕ, ◌+◌, ◌<◌, ◌≤◌, Bool, true, List, [], length, refl, sym, ap, subst, ◌∙◌, arith}
+use Rattle.std.specs.Prelude.{Option, Some, None, Result, IfOk, IfSome, IsSome, is_some, slice_index}
+use Rattle.std.specs.declared.alloc.AllocError.{AllocError}
 use Rattle.std.specs.Option.{unwrap_or}
 use Rattle.std.specs.FinMap as fin
 use Rattle.std.specs.FinMap.{get}
 use Rattle.corten_base.specs.declared.calls.Call.{Call}
 use Rattle.corten_base.specs.declared.calls.Reply.{Reply}
 use Rattle.corten_base.specs.declared.calls.Reply.TheVariants as reply
-use Rattle.page_map.specs.Cell.{frame_of, slot_of}
-use Rattle.page_map.specs.State.{State, AddressSpace, IsConsistent, linked, space_at}
-use Rattle.page_map.specs.Access.{Access, first_page, page_count, outside_user_pages, after_access}
-use Rattle.page_map.specs.Effect.{state_after, answer}
-use Rattle.page_map.specs.Step.{step, refusal}
-use Rattle.page_map.proofs.Steps.{accepted, refused}
+use Rattle.table_place.specs.Range.{within}
+use Rattle.page_map.specs.declared.cell.Cell.{Cell}
+use Rattle.page_map.specs.declared.cell.Cell.TheVariants.{Anon, File, Mapped, Swapped}
+use Rattle.page_map.specs.Change.{keys_in}
+use Rattle.page_map.specs.State.{State, AddressSpace, IsConsistent, frame_owners, is_present, linked, space_at, unused_frames}
+use Rattle.page_map.specs.Takes.{grant}
+use Rattle.page_map.specs.Access.{Access, first_page, page_count, outside_user_pages, refused_access, refused_at, wants_frame, wanting_frames, after_access, loaded}
+use Rattle.page_map.specs.Effect.{answer}
+use Rattle.page_map.specs.Step.{step}
+use Rattle.page_map.proofs.Least.{unanswered}
+use Rattle.page_map.proofs.Range.{inside}
+use Rattle.page_map.proofs.Steps.{not_none}
 use Rattle.page_map.proofs.StepKeeps.{step_keeps}
-use Rattle.mm_model.specs.Plain.{IsSound}
-use Rattle.plain_spaces.specs.Reach.{refused_in, IsWhole, IsCounted, Makes, Keeps}
-use Rattle.mm_model.specs.Accesses.{Refuses, Accepts, answered}
-use Rattle.plain_spaces.specs.Wants.{refusal_of}
+use Rattle.plain_counts.specs.declared.counts.Counts.{Counts}
+use Rattle.plain_counts.specs.Owners.{unused_of}
+use Rattle.plain_spaces.specs.Reach.{making, wants, wanting, last_page, IsResident, Makes}
+use Rattle.plain_spaces.specs.Wants.{refusal_of, IsPlan}
 use Rattle.plain_spaces.specs.declared.access.Stop.{Stop}
 use Rattle.plain_spaces.specs.declared.access.Stop.TheVariants.{Refused, NoMemory}
-use Rattle.mm_model.proofs.Full.{still_full, cells_stay, change_stays}
-use Rattle.plain_spaces.proofs.Moves.{put_back}
-use Rattle.mm_model.proofs.Carried.{is_counted_in, counts_follow, cell_here}
-use Rattle.mm_model.proofs.AccessSteps.{IsAccess, refused_outside, refused_absent, decided_inside, after_is}
+use Rattle.plain_spaces.specs.declared.plan.Plan.{Plan}
+use Rattle.plain_spaces.proofs.Made.{brought_after, brought_resident, loaded_brought}
+use Rattle.plain_spaces.proofs.Reach.{here_first, here_last}
+use Rattle.mm_model.specs.Accesses.{IsAccess, IsAllowed, IsReady, Refuses, after_reach, stopped}
+use Rattle.mm_model.specs.Plain.{IsSound}
+use Rattle.mm_model.proofs.AccessSteps.{refused_pages, refused_frames, step_made, step_refused}
+use Rattle.mm_model.proofs.Full.{full_stays, change_stays}
+use Rattle.mm_model.proofs.Kept.{frames_are, free_frames, cells_here, whole_here, stays_sound}
+use Rattle.mm_model.proofs.NewSpaces.{get_inserted}
 
-module _ (st : State) (c : Call) (space : ℕ) (a : Access) (is : IsAccess st c space a) where
-  pub refuses_outside : (r : Reply) → outside_user_pages 4 a ≡ Some r → Refuses st c r
-  refuses_outside r e = λ thread limbo legal. refused_outside st c space a is thread limbo legal r e
+-- a page wants a frame by the owners of frames
+same_wants : (st : State) (write : Bool) (c : Cell) → wants (frame_owners st) write c ≡ wants_frame st write c
+same_wants st write (Anon perm) = refl
+same_wants st write (File perm file index) = refl
+same_wants st write (Mapped perm frame bytes) = refl
+same_wants st write (Swapped perm slot bytes) = refl
 
-  pub refuses_absent : outside_user_pages 4 a ≡ None → get st.spaces space ≡ None → Refuses st c reply.NoSpace
-  refuses_absent e absent = λ thread limbo legal. refused_absent st c space a is thread limbo legal e absent
+-- a page that refuses no access has a cell
+has_cell : (files : List (List ℕ)) (write : Bool) (page : ℕ) (o : Option Cell) → refused_at files write page o ≡ None → IsSome o
+has_cell files write page None e = absurd (not_none e)
+has_cell files write page (Some c) e = refl
 
-module _ (st : State) (frames slots fronts : List ℕ) (sound : IsSound st frames slots fronts) (space : ℕ) (cells : AddressSpace) (here : get st.spaces space ≡ Some cells) where
-  pub whole_here : IsWhole st.files cells
-  whole_here = λ q c h. sound.state.bytes space q c (cell_here frame_of st st.limits.frames frames sound.frame_counts sound.state.frames space cells here q c h)
+-- the pages of an access that is not refused have cells
+pub page_there : (files : List (List ℕ)) (cells : AddressSpace) (a : Access) → refused_access files cells a ≡ None → (q : ℕ) → within (first_page a) (page_count a) q ≡ true → IsSome (get cells q)
+page_there files cells a none q w =
+    has_cell files a.write q (get cells q)
+    (unanswered (λ page. refused_at files a.write page (get cells page)) (first_page a) (page_count a) none q (inside (first_page a) (page_count a) q w).0 (inside (first_page a) (page_count a) q w).1)
 
-  pub frames_here : IsCounted frame_of frames cells
-  frames_here = is_counted_in frame_of st st.limits.frames frames sound.frame_counts sound.state.frames space cells here
+module _ (st : State) (counts : Counts) (fronts : List ℕ) (sound : IsSound st counts fronts) (space : ℕ) (cells : AddressSpace) (here : get st.spaces space ≡ Some cells) where
+  wanting_is : (a : Access) → wanting (slice_index counts.frames) cells a ≡ wanting_frames st (space_at st space) a
+  wanting_is a =
+      (λ i. wanting (frames_are st counts fronts sound i) (sym (cells_here st counts fronts sound space cells here) i) a)
+      ∙ (λ i. keys_in (space_at st space) (first_page a) (page_count a) (λ c. same_wants st a.write c i))
 
-  pub slots_here : IsCounted slot_of slots cells
-  slots_here = is_counted_in slot_of st st.limits.swap slots sound.slot_counts sound.state.slots space cells here
+  module _ (a : Access) (user : outside_user_pages 4 a ≡ None) where
+    pages_are : refused_access st.files cells a ≡ refused_access st.files (space_at st space) a
+    pages_are = ap (λ m. refused_access st.files m a) (sym (cells_here st counts fronts sound space cells here))
 
-  module _ (c : Call) (a : Access) (is : IsAccess st c space a) (user : outside_user_pages 4 a ≡ None) where
-    decides : (thread limbo : ℕ) → linked st + limbo ≤ st.limits.tables → refusal st thread c limbo ≡ refused_in st.files cells frames a
-    decides thread limbo legal = decided_inside st c space a is thread limbo legal frames sound.frame_counts sound.state.frames cells here user
+    pub stops_pages : (r : Reply) → refused_access st.files cells a ≡ Some r → (stored : List ℕ) (c : Call) → IsAccess st c space (making a stored) → Refuses st c r
+    stops_pages r e stored c is = refused_pages st c space (making a stored) is user (ap is_some here) r (sym pages_are ∙ e)
 
-    pub refuses_inside : (r : Reply) → refused_in st.files cells frames a ≡ Some r → Refuses st c r
-    refuses_inside r e = λ thread limbo legal. decides thread limbo legal ∙ e
+    module _ (pass : refused_access st.files cells a ≡ None) (free need : ℕ) (free_is : free ≡ length (unused_of counts.frames)) (need_is : need ≡ length (wanting (slice_index counts.frames) cells a)) where
+      free_here : free ≡ length (unused_frames st)
+      free_here = free_is ∙ ap length (free_frames st counts fronts sound)
 
-    module _ (cells' : AddressSpace) (frames' slots' : List ℕ) where
+      need_here : need ≡ length (wanting_frames st (space_at st space) a)
+      need_here = need_is ∙ ap length (wanting_is a)
+
+      pub stops_frames : free < need → (stored : List ℕ) (c : Call) → IsAccess st c space (making a stored) → Refuses st c (reply.NoFrames free need)
+      stops_frames less stored c is =
+          subst (Refuses st c) (λ i. reply.NoFrames (sym free_here i) (sym need_here i))
+          (refused_frames st c space (making a stored) is user (ap is_some here) (sym pages_are ∙ pass) (omega (arith, less, free_here, need_here)))
+
+      pub is_allowed : need ≤ free → IsAllowed st space a
+      is_allowed enough = record {
+        user = user;
+        present = ap is_some here;
+        pages = sym pages_are ∙ pass;
+        frames = omega (arith, enough, free_here, need_here);
+      }
+
+  -- what a plan says by the counts and by the state
+  pub plan_is : (plan : Plan) → IsPlan st.files cells (slice_index counts.frames) plan → IsPlan st.files (space_at st space) (frame_owners st) plan
+  plan_is plan h = subst (λ (x : AddressSpace × (ℕ → ℕ)). IsPlan st.files x.0 x.1 plan) (λ i. (sym (cells_here st counts fronts sound space cells here) i, frames_are st counts fronts sound i)) h
+
+  module _ (plan : Plan) (ready : IsReady st space plan) where
+    pub planned_here : IsPlan st.files cells (slice_index counts.frames) plan
+    planned_here = subst (λ (x : AddressSpace × (ℕ → ℕ)). IsPlan st.files x.0 x.1 plan) (λ i. (cells_here st counts fronts sound space cells here i, sym (frames_are st counts fronts sound) i)) ready.planned
+
+    pub enough_here : length (wanting (slice_index counts.frames) cells plan.access) ≤ length (unused_of counts.frames)
+    enough_here = omega (arith, ready.allowed.frames, ap length (wanting_is plan.access), ap length (free_frames st counts fronts sound))
+
+    module _ (stored : List ℕ) (cells' : AddressSpace) (counts' : Counts) (m : Makes st.files (making plan.access stored) cells cells' counts counts') where
+      abbrev a : Access
+      a = making plan.access stored
+
       abbrev next : State
       next = record st { spaces = fin.insert st.spaces space cells' }
 
-      no_limbo : linked st + 0 ≤ st.limits.tables
-      no_limbo = omega (arith, sound.state.tables)
+      pub reached : next ≡ after_reach st space a
+      reached =
+          ap (λ new. record st { spaces = fin.insert st.spaces space new }) m.cells_are
+          ∙ (λ i. record st {
+            spaces = fin.insert st.spaces space (after_access st.files (grant (wanting_is a i) (free_frames st counts fronts sound i)) a (sym (cells_here st counts fronts sound space cells here) i));
+          })
 
-      module _ (m : Makes st.files a cells cells' frames frames' slots slots') where
-        after : (thread : ℕ) → next ≡ state_after st thread c
-        after thread =
-            ap (λ new. record st { spaces = fin.insert st.spaces space new }) m.cells_are
-            ∙ after_is st c space a is thread 0 no_limbo frames sound.frame_counts sound.state.frames cells here
+      pages_stay : (q : ℕ) → IsSome (get cells q) → IsSome (get cells' q)
+      unfolding after_access
+      pages_stay q there = subst (λ new. IsSome (get new q)) (sym m.cells_are) (change_stays cells (first_page a) (page_count a) _ (λ _ _. refl) q there)
 
-        none : (thread limbo : ℕ) → linked st + limbo ≤ st.limits.tables → refusal st thread c limbo ≡ None
-        none thread limbo legal = decides thread limbo legal ∙ m.accepted
+      -- some call makes the access
+      pub reach_sound : (c : Call) → IsAccess st c space a → IsSound next counts' fronts
+      reach_sound c is =
+          let no_limbo : linked st + 0 ≤ st.limits.tables = omega (arith, sound.state.tables) in
+          let made = step_made st c space a is 0 0 no_limbo (record { user = ready.allowed.user; present = ready.allowed.present; pages = ready.allowed.pages; frames = ready.allowed.frames }) next reached (answer st 0 c) refl in
+          stays_sound st counts fronts sound space cells here cells' st.tables counts' fronts m.counts_follow
+          (subst IsConsistent (sym (ap (λ p. p.1) made)) (step_keeps st 0 0 c (omega arith) sound.state))
+          (full_stays st space cells cells' st.tables fronts here pages_stay sound.full)
 
-        pub accepts : (r : Reply) → ((thread : ℕ) → r ≡ answer st thread c) → Accepts st next c r
-        accepts r says = record { accepted = none; reply = says; after = after }
+      -- where nothing is stored, the pages have frames afterwards
+      pub reach_resident : stored ≡ [] → IsResident cells' plan.access
+      reach_resident none =
+          let grants = grant (wanting (slice_index counts.frames) cells a) (unused_of counts.frames) in
+          let some = planned_here.user.some in
+          let few = planned_here.user.few in
+          let there = page_there st.files cells plan.access (ap (λ n. refused_access st.files n plan.access) (sym (cells_here st counts fronts sound space cells here)) ∙ ready.allowed.pages) in
+          subst (λ n. IsResident n plan.access) (brought_after st.files cells a grants none ∙ sym m.cells_are)
+          (brought_resident st.files cells plan.access grants some few (whole_here st counts fronts sound space cells here)
+          (there (first_page plan.access) (here_first plan.access some few)) (λ _. there (last_page plan.access) (here_last plan.access some few)))
 
-        pages_stay : (q : ℕ) → IsSome (get (space_at st space) q) → IsSome (get cells' q)
-        unfolding after_access
-        pages_stay q there =
-            let cells_here : space_at st space ≡ cells = ap (λ o. unwrap_or o fin.empty) here in
-            subst (λ new. IsSome (get new q)) (sym m.cells_are) (change_stays cells (first_page a) (page_count a) _ (λ _ _. refl) q (subst (λ old. IsSome (get old q)) cells_here there))
+-- nothing is stored, and the bytes stay
+pub loaded_stays : (st : State) (space : ℕ) (a : Access) → a.stored ≡ [] → loaded st.files (space_at (after_reach st space a) space) a ≡ loaded st.files (space_at st space) a
+loaded_stays st space a none =
+    let grants = grant (wanting_frames st (space_at st space) a) (unused_frames st) in
+    ap (λ o. loaded st.files (unwrap_or o fin.empty) a) (get_inserted st.spaces space (after_access st.files grants a (space_at st space)))
+    ∙ ap (λ m. loaded st.files m a) (sym (brought_after st.files (space_at st space) a grants none))
+    ∙ loaded_brought st.files (space_at st space) a grants
 
-        pub stays_sound : IsSound next frames' slots' fronts
-        stays_sound = record {
-          state = subst IsConsistent (ap (λ p. p.1) (accepted st 0 c 0 (none 0 0 no_limbo)) ∙ sym (after 0)) (step_keeps st 0 0 c (omega arith) sound.state);
-          limits = sound.limits;
-          frame_counts = counts_follow frame_of st st.limits.frames frames sound.frame_counts sound.state.frames space cells here frames' cells' next refl m.frames_follow;
-          slot_counts = counts_follow slot_of st st.limits.swap slots sound.slot_counts sound.state.slots space cells here slots' cells' next refl m.slots_follow;
-          full = still_full st next fronts (cells_stay st space cells' st.tables pages_stay) sound.full;
-        }
+-- the space is there afterwards
+pub reach_present : (st : State) (space : ℕ) (a : Access) → is_present (after_reach st space a) space ≡ true
+reach_present st space a =
+    ap is_some (get_inserted st.spaces space (after_access st.files (grant (wanting_frames st (space_at st space) a) (unused_frames st)) a (space_at st space)))
 
-      module _ (k : Keeps cells cells' frames frames' slots slots') where
-        pub same_state : next ≡ st
-        same_state = ap (λ m. record st { spaces = m }) (ap (fin.insert st.spaces space) k.same_cells ∙ put_back st.spaces space cells here)
+-- The step of a call that makes an access, under its own name.
+module _ (st st' : State) (c named : Call) (name : c ≡ named) (space : ℕ) (a : Access) (is : IsAccess st c space a) where
+  pub made_named : IsAllowed st space a → st' ≡ after_reach st space a → (r : Reply) → ((thread : ℕ) → r ≡ answer st thread c) →
+      (thread limbo : ℕ) → linked st + limbo ≤ st.limits.tables → (r, st') ≡ step st thread named limbo
+  made_named ok after r says thread limbo legal = step_made st c space a is thread limbo legal ok st' after r (says thread) ∙ ap (λ c. step st thread c limbo) name
 
-        pub same_sound : IsSound next frames' slots' fronts
-        same_sound = subst (λ s. IsSound s frames' slots' fronts) (sym same_state) (subst (λ f. IsSound st f slots' fronts) (sym k.same_frames) (subst (λ s. IsSound st frames s fronts) (sym k.same_slots) sound))
-
--- the step of a call, from what is known of its outcome
-pub step_from : (st st' : State) (c : Call) (outcome : Result Reply Stop) → IfOk outcome (Accepts st st' c) → IfErr outcome (λ stop. IfSome (refusal_of stop) (Refuses st c)) → OnErr outcome (st' ≡ st) →
-    IfOk (answered outcome) (λ r. (thread limbo : ℕ) → linked st + limbo ≤ st.limits.tables → (r, st') ≡ step st thread c limbo)
-step_from st st' c (Ok r) ok stopped kept = λ thread limbo legal. (λ i. (ok.reply thread i, ok.after thread i)) ∙ sym (accepted st thread c limbo (ok.accepted thread limbo legal))
-step_from st st' c (Err (Refused r)) ok stopped kept = λ thread limbo legal. (λ i. (r, kept i)) ∙ sym (refused st thread c limbo r (stopped thread limbo legal))
-step_from st st' c (Err NoMemory) ok stopped kept = tt
-
-pub kept_from : (st st' : State) (outcome : Result Reply Stop) → OnErr outcome (st' ≡ st) → OnErr (answered outcome) (st' ≡ st)
-kept_from st st' (Ok r) kept = tt
-kept_from st st' (Err (Refused r)) kept = tt
-kept_from st st' (Err NoMemory) kept = kept
-
--- The same of a state, a space and spaces under other names.
-module _ (st self : State) (view : st ≡ self) (n space : ℕ) (name : n ≡ space) (call_at : ℕ → Call) where
-  pub refuses_named : (r : Reply) → Refuses st (call_at n) r → Refuses self (call_at space) r
-  refuses_named r h = subst (λ s. Refuses s (call_at space) r) view (subst (λ k. Refuses st (call_at k) r) name h)
-
-  pub accepts_named : (next lent : State) → lent ≡ next → (r : Reply) → Accepts st next (call_at n) r → Accepts self lent (call_at space) r
-  accepts_named next lent l r h = subst (λ s. Accepts s lent (call_at space) r) view (subst (λ s. Accepts st s (call_at space) r) (sym l) (subst (λ k. Accepts st next (call_at k) r) name h))
+  -- without memory there is none
+  pub stopped_named : (stop : Stop) → IfSome (refusal_of stop) (λ r. (c : Call) → IsAccess st c space a → Refuses st c r) → st' ≡ st → (outcome : Result Reply AllocError) → outcome ≡ stopped stop →
+      IfOk outcome (λ r. (thread limbo : ℕ) → linked st + limbo ≤ st.limits.tables → (r, st') ≡ step st thread named limbo)
+  stopped_named stop h same outcome outcome_is =
+      subst (λ o. IfOk o (λ r. (thread limbo : ℕ) → linked st + limbo ≤ st.limits.tables → (r, st') ≡ step st thread named limbo)) (sym outcome_is) (go stop h)
+    where
+      go : (stop : Stop) → IfSome (refusal_of stop) (λ r. (c : Call) → IsAccess st c space a → Refuses st c r) →
+          IfOk (stopped stop) (λ r. (thread limbo : ℕ) → linked st + limbo ≤ st.limits.tables → (r, st') ≡ step st thread named limbo)
+      go (Refused r) h = λ thread limbo legal. step_refused st c space a is thread limbo legal r (h c is) st' same ∙ ap (λ c. step st thread c limbo) name
+      go NoMemory h = tt

@@ -1,11 +1,10 @@
 -- The step of a call that makes an access.
-use Rattle.std.proofs.Common.{◌≡◌, ℕ, zero, suc, ◌+◌, ◌<◌, ◌≤◌, Bool, true, false, cond, not, ◌&&◌, List, [], ◌∷◌, ◌++◌, length, refl, sym, ap, ◌∙◌, arith}
-use Rattle.std.specs.Prelude.{Option, Some, None, is_some, nat_eq, nat_lt, slice_index}
-use Rattle.std.specs.Option.{option_or, unwrap_or}
-use Rattle.std.specs.Ordering.{nat_cmp}
-use Rattle.std.proofs.lemmas.Bool.{le-ltb}
+use Rattle.std.proofs.Common.{◌≡◌, ℕ, ◌+◌, ◌<◌, ◌≤◌, Bool, true, false, cond, not, ◌&&◌, List, [], ◌∷◌, length, refl, sym, ap, ◌∙◌, arith}
+use Rattle.std.specs.Prelude.{Option, Some, None, is_some, nat_lt}
+use Rattle.std.specs.Option.{option_or}
+use Rattle.std.proofs.lemmas.Bool.{le-ltb, lt-ltb}
 use Rattle.std.specs.FinMap as fin
-use Rattle.std.specs.FinMap.{FinMap, get}
+use Rattle.std.specs.FinMap.{get}
 use Rattle.std.specs.FinSet as set
 use Rattle.std.specs.FinSet.{same_set, contains-retain, len-empty}
 use Rattle.corten_base.specs.declared.calls.Call.{Call}
@@ -14,38 +13,17 @@ use Rattle.corten_base.specs.declared.calls.Reply.{Reply}
 use Rattle.corten_base.specs.declared.calls.Reply.TheVariants as reply
 use Rattle.table_place.specs.declared.Place.{Place}
 use Rattle.table_place.specs.Place.{place_cmp}
-use Rattle.page_map.specs.declared.cell.Cell.{Cell}
-use Rattle.page_map.specs.declared.cell.Cell.TheVariants.{Anon, File, Mapped, Swapped}
-use Rattle.page_map.specs.Change.{keys_in}
-use Rattle.page_map.specs.Cell.{frame_of}
-use Rattle.page_map.specs.State.{State, AddressSpace, linked, is_present, space_at, cell_at, frame_owners, unused_frames, unused_slots}
+use Rattle.page_map.specs.State.{State, linked, is_present, space_at, unused_frames, unused_slots}
 use Rattle.page_map.specs.Takes.{grant}
 use Rattle.page_map.specs.Tables.{Tables, need, changed_tables}
-use Rattle.page_map.specs.Access.{Access, first_page, page_count, outside_user_pages, refused_access, wants_frame, wanting_frames, after_access, loaded}
-use Rattle.page_map.specs.Effect.{wanting_frames_of, wanting_slots_of, frame_grants, wanted_tables, is_given_up, spaces_after, state_after, answer}
-use Rattle.page_map.specs.Step.{refusal, first_refusal, refused_unless, arguments, no_space, no_spaces, no_place, pages, no_tables, no_frames, no_swap}
-use Rattle.page_map.proofs.Keys.{keys_in_more, chosen}
+use Rattle.page_map.specs.Access.{Access, outside_user_pages, refused_access, wanting_frames, after_access, loaded}
+use Rattle.page_map.specs.Effect.{wanted_tables, is_given_up, state_after, answer}
+use Rattle.page_map.specs.Step.{step, refusal, first_refusal, refused_unless, no_tables, no_swap}
 use Rattle.page_map.proofs.Places.{place_total, place_exact}
 use Rattle.page_map.proofs.Evaluate.{union_empty, alike, difference_empty}
-use Rattle.plain_counts.specs.Owners.{unused_of}
-use Rattle.mm_model.specs.Plain.{owner_counts}
-use Rattle.plain_spaces.specs.Reach.{reaching, storing, wants, wanting, lack, refused_in}
-use Rattle.plain_spaces.proofs.Plans.{no_keys}
-use Rattle.mm_model.proofs.Counts.{unused_counts}
-use Rattle.mm_model.proofs.Carried.{counted_at}
-
--- what the definitions say of a call that makes this access to this space
-pub record IsAccess (st : State) (c : Call) (space : ℕ) (a : Access) : Type 0 where
-  pub arguments_are : arguments st c ≡ outside_user_pages 4 a
-  pub space_is : no_space st c ≡ refused_unless (is_present st space) reply.NoSpace
-  pub no_new : no_spaces st c ≡ None
-  pub no_mapping : (thread : ℕ) → no_place st thread c ≡ None
-  pub pages_are : pages st c ≡ refused_access st.files (space_at st space) a
-  pub no_wanted : (thread : ℕ) → wanted_tables st thread c ≡ []
-  pub frames_are : wanting_frames_of st c ≡ wanting_frames st (space_at st space) a
-  pub no_slots : wanting_slots_of st c ≡ []
-  pub none_left : (p : Place) → is_given_up st c p ≡ false
-  pub spaces_are : (thread : ℕ) → spaces_after st thread c ≡ fin.insert st.spaces space (after_access st.files (frame_grants st c) a (space_at st space))
+use Rattle.page_map.proofs.Steps.{accepted, refused}
+use Rattle.plain_spaces.specs.Reach.{reaching, storing}
+use Rattle.mm_model.specs.Accesses.{IsAccess, IsAllowed, Refuses, after_reach}
 
 pub load_access : (st : State) (space at len : ℕ) → IsAccess st (call.Load space at len) space (reaching at len false)
 load_access st space at len = record {
@@ -107,93 +85,79 @@ same_tables given_up none wanted no_more tables =
 pub no_need : (wanted : List Place) → wanted ≡ [] → (tables : Tables) → need wanted tables ≡ 0
 no_need wanted none tables = ap (λ w. set.len (set.difference (set.from_list w) tables)) none ∙ ap set.len (difference_empty place_total place_exact tables) ∙ len-empty place_cmp
 
-module _ {X : Type 0} (p q : X → Bool) (m : FinMap nat_cmp X) (low : ℕ) (same : (k : ℕ) (x : X) → get m k ≡ Some x → p x ≡ q x) where
-  same_chosen : (k : ℕ) (o : Option X) → get m k ≡ o → chosen p k o ≡ chosen q k o
-  unfolding chosen
-  same_chosen k None e = refl
-  same_chosen k (Some x) e = ap (λ b. cond b (k ∷ []) []) (same k x e)
+-- too few frames
+abbrev short : ℕ → ℕ → Option Reply
+short free wanted = cond (nat_lt free wanted) (Some (reply.NoFrames free wanted)) None
 
-  -- keys that pass one test or another, where the values of the map pass both or none
-  pub same_keys : (n : ℕ) → keys_in m low n p ≡ keys_in m low n q
-  same_keys zero = no_keys p m low ∙ sym (no_keys q m low)
-  same_keys (suc n) = keys_in_more p m low n ∙ (λ i. same_keys n i ++ same_chosen (low + n) (get m (low + n)) refl i) ∙ sym (keys_in_more q m low n)
+module _ (st : State) (c : Call) (space : ℕ) (a : Access) (is : IsAccess st c space a) where
+  abbrev by_pages : Option Reply
+  by_pages = refused_access st.files (space_at st space) a
 
-module _ (st : State) (frames : List ℕ) (are : frames ≡ owner_counts (frame_owners st) st.limits.frames)
-    (below : (s p n : ℕ) (c : Cell) → cell_at st s p ≡ Some c → frame_of c ≡ Some n → n < st.limits.frames)
-    (space : ℕ) (cells : AddressSpace) (here : get st.spaces space ≡ Some cells) (a : Access) where
-  same_wants : (k : ℕ) (c : Cell) → get cells k ≡ Some c → wants (slice_index frames) a.write c ≡ wants_frame st a.write c
-  same_wants k (Anon perm) h = refl
-  same_wants k (File perm file index) h = refl
-  same_wants k (Mapped perm frame bytes) h =
-      ap (λ n. a.write && not (nat_eq n 1)) (counted_at (frame_owners st) st.limits.frames frames are frame
-      (below space k frame (Mapped perm frame bytes) (ap (λ o. get (unwrap_or o fin.empty) k) here ∙ h) refl))
-  same_wants k (Swapped perm slot bytes) h = refl
+  abbrev free : ℕ
+  free = length (unused_frames st)
 
-  pub cells_here : space_at st space ≡ cells
-  cells_here = ap (λ o. unwrap_or o fin.empty) here
+  abbrev wanted : ℕ
+  wanted = length (wanting_frames st (space_at st space) a)
 
-  pub same_wanting : wanting (slice_index frames) cells a ≡ wanting_frames st (space_at st space) a
-  same_wanting =
-      same_keys (wants (slice_index frames) a.write) (wants_frame st a.write) cells (first_page a) same_wants (page_count a)
-      ∙ ap (λ m. keys_in m (first_page a) (page_count a) (wants_frame st a.write)) (sym cells_here)
+  module _ (thread limbo : ℕ) (legal : linked st + limbo ≤ st.limits.tables) where
+    no_tables_wanted : no_tables st thread c limbo ≡ None
+    no_tables_wanted =
+        let n = need (wanted_tables st thread c) st.tables in
+        let none : n ≡ 0 = no_need (wanted_tables st thread c) (is.no_wanted thread) st.tables in
+        ap (λ b. cond b (Some (reply.NoTables (linked st) limbo n)) None) (le-ltb st.limits.tables (linked st + n + limbo) (omega (arith, legal, none)))
 
-  pub same_unused : unused_of frames ≡ unused_frames st
-  same_unused = unused_counts (frame_owners st) st.limits.frames frames are
+    no_swap_wanted : no_swap st c ≡ None
+    no_swap_wanted =
+        ap (λ l. cond (nat_lt (length (unused_slots st)) (length l)) (Some (reply.NoSwap (length (unused_slots st)) (length l))) None) is.no_slots
+        ∙ ap (λ b. cond b (Some (reply.NoSwap (length (unused_slots st)) 0)) None) (le-ltb (length (unused_slots st)) 0 (omega arith))
 
-module _ (st : State) (c : Call) (space : ℕ) (a : Access) (is : IsAccess st c space a) (thread limbo : ℕ) (legal : linked st + limbo ≤ st.limits.tables) where
-  no_tables_wanted : no_tables st thread c limbo ≡ None
-  no_tables_wanted =
-      let n = need (wanted_tables st thread c) st.tables in
-      let none : n ≡ 0 = no_need (wanted_tables st thread c) (is.no_wanted thread) st.tables in
-      ap (λ b. cond b (Some (reply.NoTables (linked st) limbo n)) None) (le-ltb st.limits.tables (linked st + n + limbo) (omega (arith, legal, none)))
+    refusal_is : refusal st thread c limbo ≡ option_or (outside_user_pages 4 a) (option_or (refused_unless (is_present st space) reply.NoSpace) (option_or by_pages (short free wanted)))
+    unfolding refusal
+    refusal_is =
+        (λ i. first_refusal (is.arguments_are i ∷ is.space_is i ∷ is.no_new i ∷ is.no_mapping thread i ∷ is.pages_are i ∷ no_tables_wanted i ∷ short free (length (is.frames_are i)) ∷ no_swap_wanted i ∷ []))
+        ∙ ap (λ o. option_or (outside_user_pages 4 a) (option_or (refused_unless (is_present st space) reply.NoSpace) (option_or by_pages o))) (or_none (short free wanted))
 
-  no_swap_wanted : no_swap st c ≡ None
-  no_swap_wanted =
-      ap (λ l. cond (nat_lt (length (unused_slots st)) (length l)) (Some (reply.NoSwap (length (unused_slots st)) (length l))) None) is.no_slots
-      ∙ ap (λ b. cond b (Some (reply.NoSwap (length (unused_slots st)) 0)) None) (le-ltb (length (unused_slots st)) 0 (omega arith))
-
-  frames_wanted : no_frames st c ≡ lack (length (unused_frames st)) (length (wanting_frames st (space_at st space) a))
-  frames_wanted = ap (λ l. lack (length (unused_frames st)) (length l)) is.frames_are
-
-  -- what the space decides
-  abbrev decided : Option Reply
-  decided = option_or (refused_access st.files (space_at st space) a) (lack (length (unused_frames st)) (length (wanting_frames st (space_at st space) a)))
-
-  refusal_is : refusal st thread c limbo ≡ option_or (outside_user_pages 4 a) (option_or (refused_unless (is_present st space) reply.NoSpace) decided)
-  unfolding refusal
-  refusal_is =
-      (λ i. first_refusal (is.arguments_are i ∷ is.space_is i ∷ is.no_new i ∷ is.no_mapping thread i ∷ is.pages_are i ∷ no_tables_wanted i ∷ frames_wanted i ∷ no_swap_wanted i ∷ []))
-      ∙ ap (λ o. option_or (outside_user_pages 4 a) (option_or (refused_unless (is_present st space) reply.NoSpace) (option_or (refused_access st.files (space_at st space) a) o)))
-      (or_none (lack (length (unused_frames st)) (length (wanting_frames st (space_at st space) a))))
-
-  pub refused_outside : (r : Reply) → outside_user_pages 4 a ≡ Some r → refusal st thread c limbo ≡ Some r
-  refused_outside r e = refusal_is ∙ ap (λ o. option_or o (option_or (refused_unless (is_present st space) reply.NoSpace) decided)) e
-
-  pub refused_absent : outside_user_pages 4 a ≡ None → get st.spaces space ≡ None → refusal st thread c limbo ≡ Some reply.NoSpace
-  refused_absent e absent = refusal_is ∙ (λ i. option_or (e i) (option_or (refused_unless (is_some (absent i)) reply.NoSpace) decided))
-
-  module _ (frames : List ℕ) (are : frames ≡ owner_counts (frame_owners st) st.limits.frames)
-      (below : (s p n : ℕ) (c : Cell) → cell_at st s p ≡ Some c → frame_of c ≡ Some n → n < st.limits.frames) (cells : AddressSpace) (here : get st.spaces space ≡ Some cells) where
-    -- the pages and the frames decide
-    pub decided_inside : outside_user_pages 4 a ≡ None → refusal st thread c limbo ≡ refused_in st.files cells frames a
-    decided_inside e =
-        refusal_is
-        ∙ (λ i. option_or (e i) (option_or (refused_unless (is_some (here i)) reply.NoSpace)
-        (option_or (refused_access st.files (cells_here st frames are below space cells here a i) a)
-        (lack (length (sym (same_unused st frames are below space cells here a) i)) (length (sym (same_wanting st frames are below space cells here a) i))))))
-
-    -- and what an accepted call leaves
-    pub after_is : record st { spaces = fin.insert st.spaces space (after_access st.files (grant (wanting (slice_index frames) cells a) (unused_of frames)) a cells) } ≡ state_after st thread c
+    after_is : after_reach st space a ≡ state_after st thread c
     unfolding state_after
     after_is = sym (λ i. record st {
-      spaces = (is.spaces_are thread ∙ (λ j. fin.insert st.spaces space (after_access st.files
-          (grant ((is.frames_are ∙ sym (same_wanting st frames are below space cells here a)) j) (sym (same_unused st frames are below space cells here a) j)) a (cells_here st frames are below space cells here a j)))) i;
+      spaces = (is.spaces_are thread ∙ ap (λ keys. fin.insert st.spaces space (after_access st.files (grant keys (unused_frames st)) a (space_at st space))) is.frames_are) i;
       tables = same_tables (is_given_up st c) is.none_left (wanted_tables st thread c) (is.no_wanted thread) st.tables i;
     })
 
-pub load_answer : (st : State) (thread space at len : ℕ) (cells : AddressSpace) → get st.spaces space ≡ Some cells → reply.Bytes (loaded st.files cells (reaching at len false)) ≡ answer st thread (call.Load space at len)
+    passes : IsAllowed st space a → refusal st thread c limbo ≡ None
+    passes ok = refusal_is
+        ∙ (λ i. option_or (ok.user i) (option_or (refused_unless (ok.present i) reply.NoSpace) (option_or (ok.pages i) (short free wanted))))
+        ∙ ap (λ b. cond b (Some (reply.NoFrames free wanted)) None) (le-ltb free wanted ok.frames)
+
+    -- the call that nothing refuses
+    pub step_made : IsAllowed st space a → (st' : State) → st' ≡ after_reach st space a → (r : Reply) → r ≡ answer st thread c → (r, st') ≡ step st thread c limbo
+    step_made ok st' after r says = (λ i. (says i, (after ∙ after_is) i)) ∙ sym (accepted st thread c limbo (passes ok))
+
+    pub step_refused : (r : Reply) → Refuses st c r → (st' : State) → st' ≡ st → (r, st') ≡ step st thread c limbo
+    step_refused r h st' same = (λ i. (r, same i)) ∙ sym (refused st thread c limbo r (h thread limbo legal))
+
+  pub refused_outside : (r : Reply) → outside_user_pages 4 a ≡ Some r → Refuses st c r
+  refused_outside r e thread limbo legal =
+      refusal_is thread limbo legal ∙ ap (λ o. option_or o (option_or (refused_unless (is_present st space) reply.NoSpace) (option_or by_pages (short free wanted)))) e
+
+  module _ (user : outside_user_pages 4 a ≡ None) where
+    pub refused_absent : get st.spaces space ≡ None → Refuses st c reply.NoSpace
+    refused_absent absent thread limbo legal =
+        refusal_is thread limbo legal ∙ (λ i. option_or (user i) (option_or (refused_unless (is_some (absent i)) reply.NoSpace) (option_or by_pages (short free wanted))))
+
+    module _ (present : is_present st space ≡ true) where
+      pub refused_pages : (r : Reply) → by_pages ≡ Some r → Refuses st c r
+      refused_pages r e thread limbo legal =
+          refusal_is thread limbo legal ∙ (λ i. option_or (user i) (option_or (refused_unless (present i) reply.NoSpace) (option_or (e i) (short free wanted))))
+
+      pub refused_frames : by_pages ≡ None → free < wanted → Refuses st c (reply.NoFrames free wanted)
+      refused_frames e less thread limbo legal =
+          refusal_is thread limbo legal
+          ∙ (λ i. option_or (user i) (option_or (refused_unless (present i) reply.NoSpace) (option_or (e i) (cond (lt-ltb free wanted less i) (Some (reply.NoFrames free wanted)) None))))
+
+pub load_answer : (st : State) (thread space at len : ℕ) → reply.Bytes (loaded st.files (space_at st space) (reaching at len false)) ≡ answer st thread (call.Load space at len)
 unfolding answer
-load_answer st thread space at len cells here = ap (λ o. reply.Bytes (loaded st.files (unwrap_or o fin.empty) (reaching at len false))) (sym here)
+load_answer st thread space at len = refl
 
 pub store_answer : (st : State) (thread space at : ℕ) (bytes : List ℕ) → reply.Ok ≡ answer st thread (call.Store space at bytes)
 unfolding answer

@@ -1,5 +1,5 @@
 -- Counts of owners of the whole machine beside the cells of one space.
-use Rattle.std.proofs.Common.{◌≡◌, ℕ, ◌<◌, ◌≤◌, Bool, true, false, cond, List, [], ◌∷◌, length, get_or, refl, sym, ap, ◌∙◌, arith}
+use Rattle.std.proofs.Common.{◌≡◌, ℕ, zero, suc, ◌<◌, ◌≤◌, Bool, true, false, cond, List, [], ◌∷◌, length, get_or, refl, sym, ap, ◌∙◌, arith}
 use mathlib.Core.Logic.{◌⊎◌, inl, inr}
 use Rattle.std.specs.Prelude.{Option, Some, None, T, map, nat_eq, slice_index}
 use Rattle.std.specs.List.{sum_by, count_by}
@@ -14,11 +14,12 @@ use Rattle.std.specs.FinMap as fin
 use Rattle.std.specs.FinMap.{FinMap, get, find, is_sorted, entries_sorted, get-entries}
 use Rattle.std.specs.FinMap.Entries.{below_all}
 use Rattle.page_map.specs.declared.cell.Cell.{Cell}
-use Rattle.page_map.specs.State.{State, AddressSpace, cell_at, carries, owners}
+use Rattle.page_map.specs.State.{State, AddressSpace, cell_at, carries, owners, unused}
 use Rattle.page_map.proofs.Weights.{weight_insert, first, second, less}
 use Rattle.page_map.proofs.Owners.{one_weight}
 use Rattle.mm_model.specs.Plain.{owner_counts}
-use Rattle.plain_spaces.specs.Reach.{carried, IsCounted, Follows}
+use Rattle.plain_counts.specs.Owners.{unused_of}
+use Rattle.plain_counts.specs.Counts.{carried, IsCounted, Follows}
 
 module _ {X : Type 0} (w : X → ℕ) where
   -- a key below all others is not among them
@@ -56,42 +57,65 @@ counts_from f limit counts long each = same_lists counts (owner_counts f limit) 
     let below : k < limit = omega (arith, h, long) in
     get_or_default counts k d 0 h ∙ each k below ∙ sym (get_or-map-range_with_len f 0 limit k k d below (omega arith)))
 
-module _ (number_of : Cell → Option ℕ) (st : State) (limit : ℕ) (counts : List ℕ) (are : counts ≡ owner_counts (owners number_of st) limit)
-    (below : (s p n : ℕ) (c : Cell) → cell_at st s p ≡ Some c → number_of c ≡ Some n → n < limit)
-    (space : ℕ) (cells : AddressSpace) (here : get st.spaces space ≡ Some cells) where
-  pub cell_here : (p : ℕ) (c : Cell) → get cells p ≡ Some c → cell_at st space p ≡ Some c
-  cell_here p c h = ap (λ o. get (unwrap_or o fin.empty) p) here ∙ h
+-- a number past the limit has no owners
+no_owner : (number_of : Cell → Option ℕ) (n : ℕ) (c : Cell) → (number_of c ≡ Some n → ⊥) → ◌≡◌ {A = ℕ} (cond (carries number_of n c) 1 0) 0
+no_owner number_of n c f = go (number_of c) refl
+  where
+    go : (o : Option ℕ) → number_of c ≡ o → ◌≡◌ {A = ℕ} (cond (option_map_or (λ m. nat_eq m n) o false) 1 0) 0
+    go None e = refl
+    go (Some m) e = each (nat_eq m n) refl
+      where
+        each : (b : Bool) → nat_eq m n ≡ b → ◌≡◌ {A = ℕ} (cond b 1 0) 0
+        each false t = refl
+        each true t = absurd (f (e ∙ ap Some (eqb-true m n t)))
 
-  -- a cell that doesn't carry a number doesn't count for it
-  weighs_nothing : (n : ℕ) (c : Cell) → (number_of c ≡ Some n → ⊥) → ◌≡◌ {A = ℕ} (cond (carries number_of n c) 1 0) 0
-  weighs_nothing n c f = go (number_of c) refl
+abbrev pub AreBelow : (Cell → Option ℕ) → State → ℕ → Type 0
+AreBelow number_of st limit = (s p n : ℕ) (c : Cell) → cell_at st s p ≡ Some c → number_of c ≡ Some n → n < limit
+
+owners_past : (number_of : Cell → Option ℕ) (st : State) (limit : ℕ) → AreBelow number_of st limit → (n : ℕ) → limit ≤ n → owners number_of st n ≡ 0
+unfolding owners
+owners_past number_of st limit below n h =
+    no_values (λ (cells : AddressSpace). count_by (carries number_of n) (fin.values cells)) st.spaces (λ s cells here.
+    no_values (λ c. cond (carries number_of n c) 1 0) cells (λ p c at. no_owner number_of n c (λ is.
+    omega (arith, h, below s p n c (ap (λ (o : Option AddressSpace). get (unwrap_or o fin.empty) p) here ∙ at) is))))
+
+module _ (number_of : Cell → Option ℕ) (st : State) (limit : ℕ) (counts : List ℕ) (are : counts ≡ owner_counts (owners number_of st) limit) where
+  past : (n : ℕ) → limit ≤ n → slice_index counts n ≡ 0
+  past n h = nothing counts n (omega (arith, h, counts_long (owners number_of st) limit counts are))
     where
-      go : (o : Option ℕ) → number_of c ≡ o → ◌≡◌ {A = ℕ} (cond (option_map_or (λ m. nat_eq m n) o false) 1 0) 0
-      go None e = refl
-      go (Some m) e = each (nat_eq m n) refl
-        where
-          each : (b : Bool) → nat_eq m n ≡ b → ◌≡◌ {A = ℕ} (cond b 1 0) 0
-          each false t = refl
-          each true t = absurd (f (e ∙ ap Some (eqb-true m n t)))
+      nothing : (l : List ℕ) (n : ℕ) → length l ≤ n → ◌≡◌ {A = ℕ} (get_or l n 0) 0
+      nothing [] n h = refl
+      nothing (x ∷ l) zero h = absurd (omega (arith, h))
+      nothing (x ∷ l) (suc n) h = nothing l n (omega (arith, h))
 
-  pub is_counted_in : IsCounted number_of counts cells
-  unfolding owners
-  is_counted_in = record { each = λ n. go n (cases_lt n limit) }
-    where
-      go : (n : ℕ) → (n < limit) ⊎ (limit ≤ n) → carried number_of n cells ≤ slice_index counts n
-      go n (inl h) =
-          let one = one_weight (λ cells. count_by (carries number_of n) (fin.values cells)) st.spaces space cells here in
-          omega (arith, one, counted_at (owners number_of st) limit counts are n h)
-      go n (inr h) =
-          let none : carried number_of n cells ≡ 0 = no_values (λ c. cond (carries number_of n c) 1 0) cells (λ p c at. weighs_nothing n c (λ is. omega (arith, h, below space p n c (cell_here p c at) is))) in
-          omega (arith, none)
+  module _ (below : AreBelow number_of st limit) where
+    -- the count of each number
+    pub each_count : (n : ℕ) → slice_index counts n ≡ owners number_of st n
+    each_count n = go (cases_lt n limit)
+      where
+        go : (n < limit) ⊎ (limit ≤ n) → slice_index counts n ≡ owners number_of st n
+        go (inl h) = counted_at (owners number_of st) limit counts are n h
+        go (inr h) = past n h ∙ sym (owners_past number_of st limit below n h)
 
-  -- the counts stay those of the state where they follow the cells
-  pub counts_follow : (new : List ℕ) (cells' : AddressSpace) (next : State) → next.spaces ≡ fin.insert st.spaces space cells' → Follows None number_of counts new cells cells' → new ≡ owner_counts (owners number_of next) limit
-  unfolding owners
-  counts_follow new cells' next is f = counts_from (owners number_of next) limit new (f.numbers ∙ counts_long (owners number_of st) limit counts are) (λ n h.
-      let w : AddressSpace → ℕ = λ cells. count_by (carries number_of n) (fin.values cells) in
-      let sums = weight_insert nat_cmp_total w st.spaces space cells' in
-      let was : option_map_or w (get st.spaces space) 0 ≡ carried number_of n cells = ap (λ o. option_map_or w o 0) here in
-      let becomes : owners number_of next n ≡ sum_by w (fin.values (fin.insert st.spaces space cells')) = ap (λ m. sum_by w (fin.values m)) is in
-      omega (arith, sums, was, becomes, f.counts n, counted_at (owners number_of st) limit counts are n h))
+    pub counts_are : slice_index counts ≡ owners number_of st
+    counts_are = λ i n. each_count n i
+
+    -- and the numbers that have no owner are those of count 0
+    pub unused_are : unused_of counts ≡ unused (owners number_of st) limit
+    unused_are = λ i. unused (counts_are i) (counts_long (owners number_of st) limit counts are i)
+
+    module _ (space : ℕ) (cells : AddressSpace) (here : get st.spaces space ≡ Some cells) where
+      pub is_counted_in : IsCounted number_of counts cells
+      unfolding owners
+      is_counted_in = record { each = λ n. omega (arith, one_weight (λ cells. count_by (carries number_of n) (fin.values cells)) st.spaces space cells here, each_count n) }
+
+      -- the counts stay those of the state where they follow the cells
+      pub counts_follow : (new : List ℕ) (cells' : AddressSpace) (next : State) → next.spaces ≡ fin.insert st.spaces space cells' → Follows number_of counts new cells cells' →
+          new ≡ owner_counts (owners number_of next) limit
+      unfolding owners
+      counts_follow new cells' next is f = counts_from (owners number_of next) limit new (f.numbers ∙ counts_long (owners number_of st) limit counts are) (λ n h.
+          let w : AddressSpace → ℕ = λ cells. count_by (carries number_of n) (fin.values cells) in
+          let sums = weight_insert nat_cmp_total w st.spaces space cells' in
+          let was : option_map_or w (get st.spaces space) 0 ≡ carried number_of n cells = ap (λ o. option_map_or w o 0) here in
+          let becomes : owners number_of next n ≡ sum_by w (fin.values (fin.insert st.spaces space cells')) = ap (λ m. sum_by w (fin.values m)) is in
+          omega (arith, sums, was, becomes, f.counts n, counted_at (owners number_of st) limit counts are n h))

@@ -1,21 +1,21 @@
 -- Counts of owners as lists.
-use Rattle.std.proofs.Common.{◌≡◌, ℕ, zero, suc, ◌+◌, ◌≤◌, List, ◌∷◌, length, replicate, get_or, refl, sym, ap, ◌∙◌, arith}
-use Rattle.std.specs.Prelude.{Option, map, nat_eq}
-use Rattle.std.specs.List.{range_with_len, filter, sum_by, count_by}
+use Rattle.std.proofs.Common.{◌≡◌, ℕ, zero, suc, ◌+◌, ◌≤◌, List, ◌∷◌, length, replicate, refl, sym, ap, arith}
+use Rattle.std.specs.Prelude.{Option, map}
+use Rattle.std.specs.List.{range_with_len, sum_by, count_by}
 use Rattle.std.specs.Option.{option_map_or}
 use Rattle.std.specs.Ordering.{nat_cmp}
 use Rattle.std.specs.Cmp.{nat_cmp_total}
 use Rattle.std.specs.FinMap as fin
 use Rattle.std.specs.FinMap.{get-empty}
-use Rattle.std.proofs.lemmas.List.FromFn.{length-map-range_with_len, get_or-map-range_with_len}
+use Rattle.std.proofs.lemmas.List.FromFn.{length-map-range_with_len}
 use Rattle.corten_base.specs.declared.numbers.Limits.{Limits}
 use Rattle.page_map.specs.declared.cell.Cell.{Cell}
-use Rattle.page_map.specs.State.{AddressSpace, start, owners, carries, unused}
+use Rattle.page_map.specs.State.{AddressSpace, start, owners, carries}
 use Rattle.page_map.proofs.Weights.{weight_insert}
 use Rattle.page_map.proofs.Evaluate.{entries_empty}
 use Rattle.plain_counts.specs.Owners.{unused_of}
 use Rattle.mm_model.specs.Plain.{owner_counts}
-use Rattle.plain_counts.proofs.Tally.{same_filter, length-unused}
+use Rattle.plain_counts.proofs.Tally.{length-unused}
 
 nothing_carried : {X : Type 0} (w : X → ℕ) → sum_by w (fin.values (fin.empty {K = ℕ} {X = X} {R = nat_cmp})) ≡ 0
 nothing_carried w = ap (λ es. sum_by w (map (λ e. e.1) es)) (entries_empty nat_cmp)
@@ -39,13 +39,6 @@ zeros_from f h low (suc n) = (λ i. h low i ∷ zeros_from f h (low + 1) n i)
 
 pub no_owners : (f : ℕ → ℕ) (n : ℕ) → ((k : ℕ) → f k ≡ 0) → replicate n 0 ≡ owner_counts f n
 no_owners f n h = sym (zeros_from f h 0 n)
-
--- the numbers that have no owner are those of count 0
-pub unused_counts : (f : ℕ → ℕ) (limit : ℕ) (counts : List ℕ) → counts ≡ owner_counts f limit → unused_of counts ≡ unused f limit
-unused_counts f limit counts e =
-    ap unused_of e
-    ∙ ap (λ n. filter (λ k. nat_eq (get_or (owner_counts f limit) k 0) 0) (range_with_len 0 n)) (length-map-range_with_len f 0 limit)
-    ∙ same_filter _ _ 0 limit (λ m a b. ap (λ x. nat_eq x 0) (get_or-map-range_with_len f 0 limit m m 0 (omega (arith, b)) (omega arith)))
 
 pub unused_fit : (f : ℕ → ℕ) (limit : ℕ) (counts : List ℕ) → counts ≡ owner_counts f limit → length (unused_of counts) ≤ limit
 unused_fit f limit counts e = omega (arith, length-unused counts, ap length e, length-map-range_with_len f 0 limit)

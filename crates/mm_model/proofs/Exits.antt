@@ -1,22 +1,19 @@
 -- The step of a call that removes a space.
 use Rattle.std.proofs.Common.{◌≡◌, ℕ, ◌+◌, ◌-◌, ◌<◌, ◌≤◌, ◌^◌, Bool, true, false, cond, List, [], ◌∷◌, length, refl, sym, ap, subst, ◌∙◌, arith}
-use mathlib.Core.Logic.{inl, inr}
 use Rattle.std.specs.Prelude.{Option, Some, None, is_some, nat_eq, nat_le, nat_lt, min}
 use Rattle.std.specs.Option.{option_or, unwrap_or}
 use Rattle.std.specs.List.{sum_by, count_by}
 use Rattle.std.specs.Ordering.{nat_cmp}
 use Rattle.std.specs.Cmp.{nat_cmp_total, unsigned_tied}
-use Rattle.std.proofs.lemmas.Bool.{le-ltb, eqb-true, eqb-false, leb-true, cases_lt}
+use Rattle.std.proofs.lemmas.Bool.{le-ltb, eqb-true, eqb-false, leb-true}
 use Rattle.std.specs.FinMap as fin
-use Rattle.std.specs.FinMap.{get, get-empty, get-remove, same_map, nat_cmp-IsAntisymmetric}
+use Rattle.std.specs.FinMap.{get, get-remove, same_map, nat_cmp-IsAntisymmetric}
 use Rattle.std.specs.FinSet as set
 use Rattle.corten_base.specs.declared.calls.Call.TheVariants as call
 use Rattle.corten_base.specs.declared.calls.Reply.{Reply}
 use Rattle.corten_base.specs.declared.calls.Reply.TheVariants as reply
-use Rattle.table_place.specs.Range.{within}
 use Rattle.page_map.specs.declared.cell.Cell.{Cell}
 use Rattle.page_map.specs.Cell.{frame_of, slot_of}
-use Rattle.page_map.specs.Change.{change}
 use Rattle.page_map.specs.Mapping.{arena_first}
 use Rattle.page_map.specs.State.{State, AddressSpace, IsConsistent, linked, is_present, space_at, carries, owners, unused_frames, unused_slots}
 use Rattle.page_map.specs.Tables.{Tables, need}
@@ -25,18 +22,16 @@ use Rattle.page_map.specs.Step.{step, refusal, first_refusal, refused_unless, no
 use Rattle.page_map.proofs.Evaluate.{union_empty}
 use Rattle.page_map.proofs.Owners.{weight_at}
 use Rattle.page_map.proofs.Places.{place_total, place_exact}
-use Rattle.page_map.proofs.Range.{get-change, outside}
 use Rattle.page_map.proofs.Steps.{accepted, refused}
 use Rattle.page_map.proofs.StepKeeps.{step_keeps}
 use Rattle.plain_counts.specs.Fronts.{AreFull, IsFull, full_pages, full_before}
 use Rattle.plain_counts.specs.Levels.{is_elsewhere}
-use Rattle.plain_spaces.specs.Copies.{AreLow}
-use Rattle.plain_spaces.specs.Reach.{carried, Follows}
-use Rattle.plain_spaces.proofs.Copied.{nothing_carried}
+use Rattle.plain_counts.specs.declared.counts.Counts.{Counts}
+use Rattle.plain_counts.specs.Counts.{Follow, Follows}
+use Rattle.plain_spaces.proofs.Released.{nothing_carried}
 use Rattle.mm_model.specs.Plain.{IsSound, owner_counts}
 use Rattle.mm_model.proofs.AccessSteps.{no_need}
 use Rattle.mm_model.proofs.Carried.{counts_long, counts_from, counted_at}
-use Rattle.mm_model.proofs.SpaceSteps.{cells_low}
 
 none_short : (free : ℕ) (r : ℕ → Reply) → cond (nat_lt free 0) (Some (r 0)) None ≡ None
 none_short free r = ap (λ b. cond b (Some (r 0)) None) (le-ltb free 0 (omega arith))
@@ -71,30 +66,14 @@ module _ (st : State) (space thread limbo : ℕ) (legal : linked st + limbo ≤ 
 
 -- ---- counts
 
--- nothing is left of a space
-all_gone : (cells : AddressSpace) → AreLow cells → change cells 0 (2 ^ 35) (λ _ _. None) ≡ fin.empty
-all_gone cells low = same_map nat_cmp_total nat_cmp-IsAntisymmetric _ _ (λ q. get-change cells 0 (2 ^ 35) (λ _ _. None) q ∙ at q (within 0 (2 ^ 35) q) refl ∙ sym (get-empty nat_cmp q))
-  where
-    past : (q : ℕ) → 2 ^ 35 ≤ q → (o : Option Cell) → get cells q ≡ o → o ≡ None
-    past q a None e = refl
-    past q a (Some c) e = absurd (omega (arith, a, low q c e))
-
-    at : (q : ℕ) (b : Bool) → within 0 (2 ^ 35) q ≡ b → cond b None (get cells q) ≡ None
-    at q true e = refl
-    at q false e = elim (cases_lt q (2 ^ 35)) [
-      | inl before ↦ absurd (outside 0 (2 ^ 35) q e (omega arith) (omega (arith, before)))
-      | inr after ↦ past q after (get cells q) refl
-    ]
-
 module _ (number_of : Cell → Option ℕ) (st : State) (limit : ℕ) (counts : List ℕ) (are : counts ≡ owner_counts (owners number_of st) limit) (space : ℕ) (cells : AddressSpace) (here : get st.spaces space ≡ Some cells) where
-  pub left_counts : (gone : AddressSpace) (next : State) (after : List ℕ) → gone ≡ fin.empty → next.spaces ≡ fin.remove st.spaces space → Follows None number_of counts after cells gone → after ≡ owner_counts (owners number_of next) limit
+  pub left_counts : (next : State) (after : List ℕ) → next.spaces ≡ fin.remove st.spaces space → Follows number_of counts after cells fin.empty → after ≡ owner_counts (owners number_of next) limit
   unfolding owners
-  left_counts gone next after nothing is follows =
+  left_counts next after is follows =
       counts_from (owners number_of next) limit after (follows.numbers ∙ counts_long (owners number_of st) limit counts are) (λ n h.
       let w : AddressSpace → ℕ = λ cells. count_by (carries number_of n) (fin.values cells) in
-      let none : carried number_of n gone ≡ 0 = ap (carried number_of n) nothing ∙ nothing_carried number_of n in
       let becomes : owners number_of next n ≡ sum_by w (fin.values (fin.remove st.spaces space)) = ap (λ m. sum_by w (fin.values m)) is in
-      omega (arith, follows.counts n, none, becomes, weight_at w st.spaces space cells here, counted_at (owners number_of st) limit counts are n h))
+      omega (arith, follows.counts n, nothing_carried number_of n, becomes, weight_at w st.spaces space cells here, counted_at (owners number_of st) limit counts are n h))
 
 -- ---- fronts
 
@@ -117,20 +96,18 @@ exit_full st next space fronts fronts' is full known others s t small few = go (
         subst (IsFull (space_at next s) t) (sym none) (record { within = omega arith; cells_there = λ q a b. absurd (omega (arith, a, b)) })
 
 -- what the machine keeps
-pub exit_sound : (st : State) (space : ℕ) (cells gone : AddressSpace) (spaces : fin.FinMap nat_cmp AddressSpace) (tables : Tables) (frames slots fronts frames' slots' fronts' : List ℕ) → IsSound st frames slots fronts → get st.spaces space ≡ Some cells →
-    spaces ≡ fin.remove st.spaces space → tables ≡ set.retain st.tables (is_elsewhere space) → gone ≡ change cells 0 (2 ^ 35) (λ _ _. None) →
-    Follows None frame_of frames frames' cells gone → Follows None slot_of slots slots' cells gone →
+pub exit_sound : (st : State) (space : ℕ) (cells : AddressSpace) (spaces : fin.FinMap nat_cmp AddressSpace) (tables : Tables) (counts counts' : Counts) (fronts fronts' : List ℕ) → IsSound st counts fronts → get st.spaces space ≡ Some cells →
+    spaces ≡ fin.remove st.spaces space → tables ≡ set.retain st.tables (is_elsewhere space) → Follow counts counts' cells fin.empty →
     ((t : ℕ) → t < 8 → full_pages fronts' space t ≡ full_before (arena_first t) (full_pages fronts space t) 0 (2 ^ 35)) → ((s t : ℕ) → (s ≡ space → ⊥) → t < 8 → full_pages fronts' s t ≡ full_pages fronts s t) →
-    IsSound (record st { spaces = spaces; tables = tables }) frames' slots' fronts'
-exit_sound st space cells gone spaces tables frames slots fronts frames' slots' fronts' sound here without left is follow_frames follow_slots known others =
+    IsSound (record st { spaces = spaces; tables = tables }) counts' fronts'
+exit_sound st space cells spaces tables counts counts' fronts fronts' sound here without left follow known others =
     let next : State = record st { spaces = spaces; tables = tables } in
     let no_limbo : linked st + 0 ≤ st.limits.tables = omega (arith, sound.state.tables) in
-    let nothing = is ∙ all_gone cells (cells_low st space cells sound.state here) in
     record {
       state = subst IsConsistent (sym (ap (λ p. p.1) (exit_step st space 0 0 no_limbo cells here spaces without tables left))) (step_keeps st 0 0 (call.Exit space) (omega arith) sound.state);
       limits = sound.limits;
-      frame_counts = left_counts frame_of st st.limits.frames frames sound.frame_counts space cells here gone next frames' nothing without follow_frames;
-      slot_counts = left_counts slot_of st st.limits.swap slots sound.slot_counts space cells here gone next slots' nothing without follow_slots;
+      frame_counts = left_counts frame_of st st.limits.frames counts.frames sound.frame_counts space cells here next counts'.frames without follow.frames;
+      slot_counts = left_counts slot_of st st.limits.swap counts.slots sound.slot_counts space cells here next counts'.slots without follow.slots;
       full = exit_full st next space fronts fronts' without sound.full known others;
     }
 

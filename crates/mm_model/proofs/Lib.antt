@@ -7,11 +7,11 @@ pub mod Carried
 pub mod AccessSteps
 pub mod AccessCalls
 pub mod Full
+pub mod Kept
 pub mod OpSteps
 pub mod OpCalls
 pub mod Fixed
 pub mod TxnSteps
-pub mod Bounds
 pub mod SwapSteps
 pub mod NewSpaces
 pub mod SpaceSteps

@@ -1,13 +1,13 @@
 -- A new space: what its numbers do to the counts, and what stays as it was.
-use Rattle.std.proofs.Common.{◌≡◌, ℕ, zero, suc, ◌+◌, ◌-◌, ◌<◌, ◌≤◌, Bool, true, false, cond, not, List, [], ◌∷◌, length, get_or, Bor, refl, sym, ap, subst, ◌∙◌, arith}
+use Rattle.std.proofs.Common.{◌≡◌, ℕ, ◌+◌, ◌-◌, ◌≤◌, Bool, true, false, cond, not, List, [], ◌∷◌, Bor, refl, sym, ap, subst, ◌∙◌, arith}
 use mathlib.Core.Bool.{true≢false}
-use mathlib.Core.Logic.{◌⊎◌, inl, inr}
-use Rattle.std.specs.Prelude.{Option, Some, None, IsSome, ◌||◌, ◌&&◌, is_some, nat_eq, slice_index}
+use mathlib.Core.Logic.{inl, inr}
+use Rattle.std.specs.Prelude.{Option, Some, None, IsSome, ◌||◌, ◌&&◌, is_some, nat_eq}
 use Rattle.std.specs.Option.{option_map_or, option_copied, unwrap_or}
 use Rattle.std.specs.List.{count_by}
 use Rattle.std.specs.Ordering.{nat_cmp, eq_by_cmp}
 use Rattle.std.specs.Cmp.{nat_cmp_total, nat_eq_equiv, unsigned_tied}
-use Rattle.std.proofs.lemmas.Bool.{cases_lt, or_cases, eqb-true}
+use Rattle.std.proofs.lemmas.Bool.{or_cases, eqb-true}
 use Rattle.std.specs.FinMap as fin
 use Rattle.std.specs.FinMap.{get, get-empty, get-insert}
 use Rattle.std.specs.FinSet as set
@@ -18,7 +18,7 @@ use Rattle.table_place.specs.declared.Place.{Place}
 use Rattle.table_place.specs.Place.{place_cmp, root, above}
 use Rattle.page_map.specs.declared.cell.Cell.{Cell}
 use Rattle.page_map.specs.Cell.{frame_of, slot_of}
-use Rattle.page_map.specs.State.{State, AddressSpace, IsConsistent, space_at, cell_at, carries, owners}
+use Rattle.page_map.specs.State.{State, AddressSpace, IsConsistent, space_at, carries, owners}
 use Rattle.page_map.specs.Tables.{Tables, need}
 use Rattle.page_map.proofs.Places.{place_total, place_exact}
 use Rattle.page_map.proofs.Steps.{not_none}
@@ -28,13 +28,14 @@ use Rattle.page_map.proofs.Growth.{is_wanted, grown_len, all_stay}
 use Rattle.page_map.proofs.Above.{any_append}
 use Rattle.plain_counts.specs.Levels.{is_elsewhere}
 use Rattle.plain_counts.specs.Fronts.{AreFull}
-use Rattle.plain_spaces.specs.Copies.{IsRoomy, JoinsAll, IsNewTo, tables_above, new_tables}
-use Rattle.plain_spaces.specs.Reach.{carried, IsCounted}
+use Rattle.plain_counts.specs.declared.counts.Counts.{Counts}
+use Rattle.plain_counts.specs.Counts.{carried, IsCounted, AreCounted}
+use Rattle.plain_spaces.specs.Copies.{IsRoomy, AreRoomy, JoinsAll, JoinAll, IsNewTo, tables_above, new_tables}
 use Rattle.plain_spaces.proofs.NewTables.{others_stay, none_lost, above_mine, root_mine}
 use Rattle.mm_model.specs.Placing.{tables_lack}
 use Rattle.mm_model.specs.Plain.{IsSound, owner_counts}
 use Rattle.mm_model.specs.NewSpaces.{with_space, AreOwned, MayMake, made, made_unless}
-use Rattle.mm_model.proofs.Carried.{counts_long, counts_from, counted_at, no_values}
+use Rattle.mm_model.proofs.Carried.{AreBelow, counts_long, counts_from, counted_at, each_count}
 use Rattle.mm_model.proofs.Full.{still_full, cells_stay}
 
 -- ---- counts
@@ -49,27 +50,12 @@ owners_join number_of st new cells tables n absent =
     omega (arith, weight_insert nat_cmp_total w st.spaces new cells, none)
 
 module _ (number_of : Cell → Option ℕ) (st : State) (limit : ℕ) (counts : List ℕ) (are : counts ≡ owner_counts (owners number_of st) limit) where
-  past : (n : ℕ) → limit ≤ n → slice_index counts n ≡ 0
-  past n h = nothing counts n (omega (arith, h, counts_long (owners number_of st) limit counts are))
-    where
-      nothing : (l : List ℕ) (n : ℕ) → length l ≤ n → ◌≡◌ {A = ℕ} (get_or l n 0) 0
-      nothing [] n h = refl
-      nothing (x ∷ l) zero h = absurd (omega (arith, h))
-      nothing (x ∷ l) (suc n) h = nothing l n (omega (arith, h))
-
-  module _ (below : (n : ℕ) → limit ≤ n → owners number_of st n ≡ 0) where
-    each_count : (n : ℕ) → slice_index counts n ≡ owners number_of st n
-    each_count n = go (cases_lt n limit)
-      where
-        go : (n < limit) ⊎ (limit ≤ n) → slice_index counts n ≡ owners number_of st n
-        go (inl h) = counted_at (owners number_of st) limit counts are n h
-        go (inr h) = past n h ∙ sym (below n h)
-
+  module _ (below : AreBelow number_of st limit) where
     pub owned_counted : (cells : AddressSpace) → AreOwned number_of (owners number_of st) cells → IsCounted number_of counts cells
-    owned_counted cells owned = record { each = λ n. omega (arith, owned.owned n, each_count n) }
+    owned_counted cells owned = record { each = λ n. omega (arith, owned.owned n, each_count number_of st limit counts are below n) }
 
     pub owned_roomy : (cells : AddressSpace) → AreOwned number_of (owners number_of st) cells → IsRoomy number_of counts cells
-    owned_roomy cells owned = record { each = λ n. omega (arith, owned.few n, each_count n) }
+    owned_roomy cells owned = record { each = λ n. omega (arith, owned.few n, each_count number_of st limit counts are below n) }
 
   pub joined_counts : (new : ℕ) (cells : AddressSpace) (tables : Tables) (after : List ℕ) → get st.spaces new ≡ None → JoinsAll number_of counts after cells →
       after ≡ owner_counts (owners number_of (record st { spaces = fin.insert st.spaces new cells; tables = tables })) limit
@@ -145,49 +131,30 @@ alone st new cells none wanted ok absent e put =
 
 -- ---- what the machine keeps
 
-pub made_sound : (st : State) (new : ℕ) (cells : AddressSpace) (limbo : ℕ) (frames slots fronts frames' slots' : List ℕ) → MayMake st new cells limbo → IsSound st frames slots fronts →
-    tables_lack st (new_tables new cells) limbo ≡ None → JoinsAll frame_of frames frames' cells → JoinsAll slot_of slots slots' cells → IsSound (with_space st new cells) frames' slots' fronts
-made_sound st new cells limbo frames slots fronts frames' slots' may sound enough join_frames join_slots = record {
+made_sound : (st : State) (new : ℕ) (cells : AddressSpace) (limbo : ℕ) (counts counts' : Counts) (fronts : List ℕ) → MayMake st new cells limbo → IsSound st counts fronts →
+    tables_lack st (new_tables new cells) limbo ≡ None → JoinAll counts counts' cells → IsSound (with_space st new cells) counts' fronts
+made_sound st new cells limbo counts counts' fronts may sound enough join = record {
   state = may.keeps enough;
   limits = sound.limits;
-  frame_counts = joined_counts frame_of st st.limits.frames frames sound.frame_counts new cells (set.union st.tables (set.from_list (new_tables new cells))) frames' may.absent join_frames;
-  slot_counts = joined_counts slot_of st st.limits.swap slots sound.slot_counts new cells (set.union st.tables (set.from_list (new_tables new cells))) slots' may.absent join_slots;
+  frame_counts = joined_counts frame_of st st.limits.frames counts.frames sound.frame_counts new cells (set.union st.tables (set.from_list (new_tables new cells))) counts'.frames may.absent join.frames;
+  slot_counts = joined_counts slot_of st st.limits.swap counts.slots sound.slot_counts new cells (set.union st.tables (set.from_list (new_tables new cells))) counts'.slots may.absent join.slots;
   full = born_full st new cells (set.union st.tables (set.from_list (new_tables new cells))) fronts may.absent sound.full;
 }
 
--- a number past the limit has no owners
-no_owner : (number_of : Cell → Option ℕ) (n : ℕ) (c : Cell) → (number_of c ≡ Some n → ⊥) → ◌≡◌ {A = ℕ} (cond (carries number_of n c) 1 0) 0
-no_owner number_of n c f = go (number_of c) refl
-  where
-    go : (o : Option ℕ) → number_of c ≡ o → ◌≡◌ {A = ℕ} (cond (option_map_or (λ m. nat_eq m n) o false) 1 0) 0
-    go None e = refl
-    go (Some m) e = each (nat_eq m n) refl
-      where
-        each : (b : Bool) → nat_eq m n ≡ b → ◌≡◌ {A = ℕ} (cond b 1 0) 0
-        each false t = refl
-        each true t = absurd (f (e ∙ ap Some (eqb-true m n t)))
-
-owners_past : (number_of : Cell → Option ℕ) (st : State) (limit : ℕ) → ((s p n : ℕ) (c : Cell) → cell_at st s p ≡ Some c → number_of c ≡ Some n → n < limit) → (n : ℕ) → limit ≤ n → owners number_of st n ≡ 0
-unfolding owners
-owners_past number_of st limit below n h =
-    no_values (λ (cells : AddressSpace). count_by (carries number_of n) (fin.values cells)) st.spaces (λ s cells here.
-    no_values (λ c. cond (carries number_of n c) 1 0) cells (λ p c at. no_owner number_of n c (λ is.
-    omega (arith, h, below s p n c (ap (λ (o : Option AddressSpace). get (unwrap_or o fin.empty) p) here ∙ at) is))))
-
 -- ---- a space that may be made
 
-module _ (st : State) (new : ℕ) (cells : AddressSpace) (limbo : ℕ) (frames slots fronts : List ℕ) (may : MayMake st new cells limbo) (sound : IsSound st frames slots fronts) where
-  pub frames_in : IsCounted frame_of frames cells
-  frames_in = owned_counted frame_of st st.limits.frames frames sound.frame_counts (owners_past frame_of st st.limits.frames sound.state.frames) cells may.frames
+module _ (st : State) (new : ℕ) (cells : AddressSpace) (limbo : ℕ) (counts : Counts) (fronts : List ℕ) (may : MayMake st new cells limbo) (sound : IsSound st counts fronts) where
+  pub counted_in : AreCounted counts cells
+  counted_in = record {
+    frames = owned_counted frame_of st st.limits.frames counts.frames sound.frame_counts sound.state.frames cells may.frames;
+    slots = owned_counted slot_of st st.limits.swap counts.slots sound.slot_counts sound.state.slots cells may.slots;
+  }
 
-  pub slots_in : IsCounted slot_of slots cells
-  slots_in = owned_counted slot_of st st.limits.swap slots sound.slot_counts (owners_past slot_of st st.limits.swap sound.state.slots) cells may.slots
-
-  pub frames_fit : IsRoomy frame_of frames cells
-  frames_fit = owned_roomy frame_of st st.limits.frames frames sound.frame_counts (owners_past frame_of st st.limits.frames sound.state.frames) cells may.frames
-
-  pub slots_fit : IsRoomy slot_of slots cells
-  slots_fit = owned_roomy slot_of st st.limits.swap slots sound.slot_counts (owners_past slot_of st st.limits.swap sound.state.slots) cells may.slots
+  pub roomy_in : AreRoomy counts cells
+  roomy_in = record {
+    frames = owned_roomy frame_of st st.limits.frames counts.frames sound.frame_counts sound.state.frames cells may.frames;
+    slots = owned_roomy slot_of st st.limits.swap counts.slots sound.slot_counts sound.state.slots cells may.slots;
+  }
 
   pub is_new : IsNewTo st.tables new
   is_new = new_to st new sound.state may.absent
@@ -214,10 +181,10 @@ module _ (st : State) (new : ℕ) (cells : AddressSpace) (limbo : ℕ) (frames s
         (λ i. (reply.Space new, record st { spaces = is i; tables = put i })) ∙ sym (ap (λ o. made_unless o st new cells) enough)
 
     pub made_is_sound : tables_lack st (new_tables new cells) limbo ≡ None → (spaces : fin.FinMap nat_cmp AddressSpace) → spaces ≡ fin.insert st.spaces new cells →
-        (frames' slots' : List ℕ) → JoinsAll frame_of frames frames' cells → JoinsAll slot_of slots slots' cells → IsSound (record st { spaces = spaces; tables = tables }) frames' slots' fronts
-    made_is_sound enough spaces is frames' slots' join_frames join_slots =
-        subst (λ (n : State). IsSound n frames' slots' fronts) (sym (λ i. record st { spaces = is i; tables = put i }))
-        (made_sound st new cells limbo frames slots fronts frames' slots' may sound enough join_frames join_slots)
+        (counts' : Counts) → JoinAll counts counts' cells → IsSound (record st { spaces = spaces; tables = tables }) counts' fronts
+    made_is_sound enough spaces is counts' join =
+        subst (λ (n : State). IsSound n counts' fronts) (sym (λ i. record st { spaces = is i; tables = put i }))
+        (made_sound st new cells limbo counts counts' fronts may sound enough join)
 
 -- ---- what was just put in
 

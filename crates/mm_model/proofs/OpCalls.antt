@@ -10,7 +10,6 @@ use Rattle.corten_base.specs.declared.calls.Reply.TheVariants as reply
 use Rattle.corten_base.specs.declared.calls.TxnOp.{TxnOp}
 use Rattle.corten_base.specs.declared.calls.Why.{Why}
 use Rattle.table_place.specs.declared.Place.{Place}
-use Rattle.page_map.specs.Cell.{frame_of, slot_of}
 use Rattle.page_map.specs.Mapping.{is_right, refused_op, after_op}
 use Rattle.page_map.specs.State.{State, AddressSpace, IsConsistent, linked}
 use Rattle.page_map.specs.Tables.{Tables, changed_tables}
@@ -19,9 +18,10 @@ use Rattle.page_map.specs.Effect.{answer}
 use Rattle.page_map.proofs.Steps.{accepted, refused}
 use Rattle.page_map.proofs.StepKeeps.{step_keeps}
 use Rattle.plain_counts.specs.Fronts.{AreFull}
-use Rattle.plain_spaces.specs.Reach.{Follows}
+use Rattle.plain_counts.specs.declared.counts.Counts.{Counts}
+use Rattle.plain_counts.specs.Counts.{Follow}
 use Rattle.mm_model.specs.Plain.{IsSound}
-use Rattle.mm_model.proofs.Carried.{counts_follow}
+use Rattle.mm_model.proofs.Kept.{stays_sound}
 use Rattle.mm_model.proofs.OpSteps.{IsOp, missing, passes, after_is, refused_wrong, refused_absent, refused_by}
 
 -- a range that is none
@@ -53,15 +53,11 @@ module _ (st : State) (c : Call) (space : ℕ) (o : TxnOp) (wanted : List Place)
         ∙ ap (λ after. (answer st thread c, after)) (after_is st c space o wanted given_up says is thread cells here)
         ∙ sym (accepted st thread c limbo (passes st c space o wanted given_up says is thread limbo right cells here allowed fits))
 
-    pub op_stays_sound : (frames slots fronts frames' slots' fronts' : List ℕ) → IsSound st frames slots fronts → (limbo : ℕ) → linked st + missing st c space o wanted given_up says is + limbo ≤ st.limits.tables →
-        Follows None frame_of frames frames' cells cells' → Follows None slot_of slots slots' cells cells' → AreFull next fronts' → IsSound next frames' slots' fronts'
-    op_stays_sound frames slots fronts frames' slots' fronts' sound limbo fits frames_follow slots_follow full = record {
-      state = subst IsConsistent (sym (ap (λ p. p.1) (step_is 0 limbo fits))) (step_keeps st 0 limbo c (omega arith) sound.state);
-      limits = sound.limits;
-      frame_counts = counts_follow frame_of st st.limits.frames frames sound.frame_counts sound.state.frames space cells here frames' cells' next refl frames_follow;
-      slot_counts = counts_follow slot_of st st.limits.swap slots sound.slot_counts sound.state.slots space cells here slots' cells' next refl slots_follow;
-      full = full;
-    }
+    pub op_stays_sound : (counts counts' : Counts) (fronts fronts' : List ℕ) → IsSound st counts fronts → (limbo : ℕ) → linked st + missing st c space o wanted given_up says is + limbo ≤ st.limits.tables →
+        Follow counts counts' cells cells' → AreFull next fronts' → IsSound next counts' fronts'
+    op_stays_sound counts counts' fronts fronts' sound limbo fits follow full =
+        stays_sound st counts fronts sound space cells here cells' tables' counts' fronts' follow
+        (subst IsConsistent (sym (ap (λ p. p.1) (step_is 0 limbo fits))) (step_keeps st 0 limbo c (omega arith) sound.state)) full
 
 -- The same of a state and a space under other names.
 pub named : (st self : State) (view : st ≡ self) (n space : ℕ) (name : n ≡ space) (call_at : ℕ → Call) (r : Reply) (st' : State) →

@@ -1,5 +1,5 @@
 -- A mapping whose pages may go to those from a page on: what is known of them, and what it leaves.
-use Rattle.std.proofs.Common.{◌≡◌, ℕ, ◌+◌, ◌*◌, ◌/◌, ◌%◌, ◌≤◌, ◌<◌, ◌^◌, true, false, List, [], length, Some, None, refl, sym, ap, ◌∙◌, arith}
+use Rattle.std.proofs.Common.{◌≡◌, ℕ, ◌+◌, ◌*◌, ◌/◌, ◌%◌, ◌≤◌, ◌<◌, ◌^◌, true, false, List, [], length, Some, refl, sym, ap, ◌∙◌, arith}
 use Rattle.std.specs.Prelude.{◌&&◌, nat_eq, nat_le, nat_lt}
 use Rattle.std.specs.FinMap as map
 use Rattle.std.specs.FinSet as set
@@ -11,7 +11,6 @@ use Rattle.corten_base.specs.declared.calls.MapPlace.TheVariants as place
 use Rattle.corten_base.specs.declared.calls.Reply.TheVariants as reply
 use Rattle.corten_base.specs.declared.calls.TxnOp.TheVariants as op
 use Rattle.table_place.specs.Place.{above, is_page_range, is_user_range, pages_of}
-use Rattle.page_map.specs.Cell.{frame_of, slot_of}
 use Rattle.page_map.specs.Mapping.{is_mappable, is_backing, after_op}
 use Rattle.page_map.specs.State.{State, AddressSpace, space_at}
 use Rattle.page_map.specs.Step.{step}
@@ -20,9 +19,10 @@ use Rattle.page_map.proofs.Growth.{all_stay}
 use Rattle.page_map.proofs.Mappings.{gap_user, page_range}
 use Rattle.page_map.proofs.Steps.{Passed, passed, accepted}
 use Rattle.page_map.proofs.Unmapped.{held_of}
-use Rattle.plain_spaces.specs.Backing.{index_of}
+use Rattle.page_runs.specs.Mark.{index_of}
 use Rattle.plain_counts.specs.Fronts.{AreFull}
-use Rattle.plain_spaces.specs.Reach.{Follows}
+use Rattle.plain_counts.specs.declared.counts.Counts.{Counts}
+use Rattle.plain_counts.specs.Counts.{Follow}
 use Rattle.mm_model.specs.Placing.{IsPlaced, MayPut, after_put, call_of, filled, tables_with}
 use Rattle.mm_model.specs.Plain.{IsSound}
 use Rattle.mm_model.specs.declared.mapping.Mapping.{Mapping}
@@ -60,17 +60,17 @@ module _ (st : State) (m : Mapping) (first : ℕ) (may : MayPut st m first) wher
   range_fits = ltb-true (first + count) (2 ^ 35) (and_parts (nat_le 16 first) (nat_lt (first + count) (2 ^ 35)) user).1
 
   -- what the machine keeps
-  pub put_stays_sound : (cells cells' : AddressSpace) (tables' : Tables) (frames slots fronts frames' slots' : List ℕ) → map.get st.spaces m.space ≡ Some cells →
-      cells' ≡ filled m first cells → tables' ≡ tables_with m first st.tables → IsSound st frames slots fronts →
-      Follows None frame_of frames frames' cells cells' → Follows None slot_of slots slots' cells cells' → AreFull (record st { spaces = map.insert st.spaces m.space cells'; tables = tables' }) fronts →
-      IsSound (record st { spaces = map.insert st.spaces m.space cells'; tables = tables' }) frames' slots' fronts
+  pub put_stays_sound : (cells cells' : AddressSpace) (tables' : Tables) (counts counts' : Counts) (fronts : List ℕ) → map.get st.spaces m.space ≡ Some cells →
+      cells' ≡ filled m first cells → tables' ≡ tables_with m first st.tables → IsSound st counts fronts →
+      Follow counts counts' cells cells' → AreFull (record st { spaces = map.insert st.spaces m.space cells'; tables = tables' }) fronts →
+      IsSound (record st { spaces = map.insert st.spaces m.space cells'; tables = tables' }) counts' fronts
   unfolding after_op
-  put_stays_sound cells cells' tables' frames slots fronts frames' slots' here cells_are tables_are sound frames_follow slots_follow full =
+  put_stays_sound cells cells' tables' counts counts' fronts here cells_are tables_are sound follow full =
       op_stays_sound st (call.Map m.space (place.At (4096 * first)) m.len m.perm m.backing) m.space (op.Map (4096 * first) false m.len m.perm m.backing) _ _ _ (at_op st m (4096 * first)) may.right cells here refl
       cells' tables' (cells_are ∙ ap (λ n. filled m n cells) (sym (first_page first)))
       (tables_are ∙ (λ i. set.union (sym (all_stay (λ _. false) (λ _. refl) [] st.tables) i) (set.from_list (above 4 m.space (sym (first_page first) i) count))))
-      frames slots fronts frames' slots' fronts sound 0
-      (omega (arith, may.tables, ap (λ n. need (above 4 m.space n count) st.tables) (first_page first))) frames_follow slots_follow full
+      counts counts' fronts fronts sound 0
+      (omega (arith, may.tables, ap (λ n. need (above 4 m.space n count) st.tables) (first_page first))) follow full
 
 module _ (st : State) (thread : ℕ) (m : Mapping) (limbo first : ℕ) (few : thread < 8) (placed : IsPlaced st thread m limbo first) where
   all_passed : Passed st thread (call_of m) limbo

@@ -1,9 +1,9 @@
 -- The step of a call that moves pages to swap or back.
 use Rattle.std.proofs.Common.{◌≡◌, ℕ, ◌+◌, ◌/◌, ◌<◌, ◌≤◌, Bool, true, false, cond, List, [], ◌∷◌, length, refl, sym, ap, subst, ◌∙◌, arith}
 use mathlib.Core.Bool.{true≢false}
-use Rattle.std.specs.Prelude.{Option, Some, None, IsSome, is_some, nat_eq, nat_lt, slice_index}
-use Rattle.std.specs.Option.{option_or, option_map, unwrap_or}
-use Rattle.std.proofs.lemmas.Bool.{le-ltb}
+use Rattle.std.specs.Prelude.{Option, Some, None, IsSome, is_some, nat_eq, nat_lt}
+use Rattle.std.specs.Option.{option_or, option_map}
+use Rattle.std.proofs.lemmas.Bool.{le-ltb, lt-ltb}
 use Rattle.std.specs.FinMap as fin
 use Rattle.std.specs.FinMap.{get}
 use Rattle.corten_base.specs.declared.calls.Call.{Call}
@@ -16,23 +16,26 @@ use Rattle.page_map.specs.declared.cell.Cell.{Cell}
 use Rattle.page_map.specs.declared.cell.Cell.TheVariants.{Anon, File, Mapped, Swapped}
 use Rattle.page_map.specs.Change.{keys_in}
 use Rattle.page_map.specs.Cell.{frame_of, slot_of}
-use Rattle.page_map.specs.State.{State, AddressSpace, IsConsistent, linked, is_present, space_at, cell_at, frame_owners, slot_owners, unused_frames, unused_slots}
-use Rattle.page_map.specs.Swap.{goes_out, comes_in, out_to, in_to, moved, moved_to}
+use Rattle.page_map.specs.State.{State, AddressSpace, IsConsistent, linked, is_present, space_at, unused_frames, unused_slots}
+use Rattle.page_map.specs.Swap.{goes_out, comes_in, moved, moved_to}
 use Rattle.page_map.specs.Takes.{Grant, grant, granted}
 use Rattle.page_map.specs.Tables.{need}
-use Rattle.page_map.specs.Effect.{wanted_tables, is_given_up, spaces_after, state_after, answer, slot_grants, frame_grants}
+use Rattle.page_map.specs.Effect.{wanted_tables, is_given_up, spaces_after, state_after, answer}
 use Rattle.page_map.specs.Step.{step, refusal, first_refusal, refused_unless, arguments, no_space, no_spaces, no_place, pages, no_tables, no_frames, no_swap}
 use Rattle.page_map.proofs.Steps.{accepted, refused}
 use Rattle.page_map.proofs.StepKeeps.{step_keeps}
 use Rattle.plain_counts.specs.Owners.{unused_of}
-use Rattle.plain_spaces.specs.Reach.{Follows}
-use Rattle.plain_spaces.specs.Swapping.{is_sole}
+use Rattle.plain_counts.specs.declared.counts.Counts.{Counts}
+use Rattle.plain_counts.specs.Counts.{Follow}
+use Rattle.plain_spaces.specs.Swapping.{passes, taken, to}
+use Rattle.plain_spaces.specs.declared.swap.Move.{Move}
+use Rattle.plain_spaces.specs.declared.swap.Move.TheVariants.{Out, In}
+use Rattle.mm_model.specs.Moves.{move_call, too_few}
 use Rattle.mm_model.specs.Plain.{IsSound}
-use Rattle.mm_model.proofs.AccessSteps.{no_need, same_tables, same_keys}
-use Rattle.mm_model.proofs.Bounds.{few_pass}
-use Rattle.mm_model.proofs.Carried.{counted_at, counts_follow}
-use Rattle.mm_model.proofs.Counts.{unused_counts}
+use Rattle.page_map.proofs.Bounds.{few_pass}
+use Rattle.mm_model.proofs.AccessSteps.{no_need, same_tables}
 use Rattle.mm_model.proofs.Full.{full_stays, change_stays}
+use Rattle.mm_model.proofs.Kept.{frames_are, free_frames, free_slots, cells_here, cell_here, stays_sound}
 
 -- what the definitions say of a call that moves pages of a range of this space, where so many numbers are wanted
 pub record IsMove (st : State) (c : Call) (space at len : ℕ) (lack : Option Reply) (after : AddressSpace) (says : Reply) : Type 0 where
@@ -54,10 +57,28 @@ or_none (Some x) = refl
 none_short : (free : ℕ) (r : ℕ → Reply) → cond (nat_lt free 0) (Some (r 0)) None ≡ None
 none_short free r = ap (λ b. cond b (Some (r 0)) None) (le-ltb free 0 (omega arith))
 
-pub out_move : (st : State) (space at len : ℕ) → IsMove st (call.SwapOut space at len) space at len (no_swap st (call.SwapOut space at len))
-    (moved_to out_to (slot_grants st (call.SwapOut space at len)) (at / 4096) (pages_of len) (space_at st space)) (reply.Moved (length (keys_in (space_at st space) (at / 4096) (pages_of len) (goes_out st))))
+-- the pages that move, and the numbers that they move to
+abbrev pub moving_of : State → Move → Cell → Bool
+moving_of st Out = goes_out st
+moving_of st In = comes_in
+
+abbrev pub free_of : State → Move → List ℕ
+free_of st Out = unused_slots st
+free_of st In = unused_frames st
+
+module _ (st : State) (way : Move) (space at len : ℕ) where
+  abbrev pub keys_of : List ℕ
+  keys_of = keys_in (space_at st space) (at / 4096) (pages_of len) (moving_of st way)
+
+  abbrev pub lack_of : Option Reply
+  lack_of = cond (nat_lt (length (free_of st way)) (length keys_of)) (Some (too_few way (length (free_of st way)) (length keys_of))) None
+
+  abbrev pub moved_cells : AddressSpace
+  moved_cells = moved_to (to way) (grant keys_of (free_of st way)) (at / 4096) (pages_of len) (space_at st space)
+
+pub is_move : (st : State) (way : Move) (space at len : ℕ) → IsMove st (move_call way space at len) space at len (lack_of st way space at len) (moved_cells st way space at len) (reply.Moved (length (keys_of st way space at len)))
 unfolding answer
-out_move st space at len = record {
+is_move st Out space at len = record {
   arguments_are = refl;
   space_is = refl;
   no_new = refl;
@@ -69,11 +90,7 @@ out_move st space at len = record {
   spaces_are = λ _. refl;
   answer_is = λ _. refl;
 }
-
-pub in_move : (st : State) (space at len : ℕ) → IsMove st (call.SwapIn space at len) space at len (no_frames st (call.SwapIn space at len))
-    (moved_to in_to (frame_grants st (call.SwapIn space at len)) (at / 4096) (pages_of len) (space_at st space)) (reply.Moved (length (keys_in (space_at st space) (at / 4096) (pages_of len) comes_in)))
-unfolding answer
-in_move st space at len = record {
+is_move st In space at len = record {
   arguments_are = refl;
   space_is = refl;
   no_new = refl;
@@ -126,101 +143,87 @@ module _ (st : State) (c : Call) (space at len : ℕ) (lack : Option Reply) (aft
           step_is = (λ i. ((reply_is ∙ sym (is.answer_is thread)) i, after_is i)) ∙ sym (accepted st thread c limbo (decided ∙ enough))
 
   module _ (right : is_page_range 4 at len ≡ true) (cells : AddressSpace) (here : get st.spaces space ≡ Some cells) (enough : lack ≡ None) (cells' : AddressSpace) (cells_are : cells' ≡ after) where
-    pub move_stays_sound : (frames slots fronts frames' slots' : List ℕ) → IsSound st frames slots fronts → Follows None frame_of frames frames' cells cells' → Follows None slot_of slots slots' cells cells' →
-        ((q : ℕ) → IsSome (get cells q) → IsSome (get cells' q)) → IsSound (record st { spaces = fin.insert st.spaces space cells' }) frames' slots' fronts
-    move_stays_sound frames slots fronts frames' slots' sound frames_follow slots_follow stay =
-        let next : State = record st { spaces = fin.insert st.spaces space cells' } in
+    pub move_sound : (counts : Counts) (fronts : List ℕ) (counts' : Counts) → IsSound st counts fronts → Follow counts counts' cells cells' →
+        ((q : ℕ) → IsSome (get cells q) → IsSome (get cells' q)) → IsSound (record st { spaces = fin.insert st.spaces space cells' }) counts' fronts
+    move_sound counts fronts counts' sound follow stay =
         let no_limbo : linked st + 0 ≤ st.limits.tables = omega (arith, sound.state.tables) in
-        record {
-          state = subst IsConsistent (sym (ap (λ p. p.1) (step_is 0 0 no_limbo right cells here enough cells' cells_are says refl))) (step_keeps st 0 0 c (omega arith) sound.state);
-          limits = sound.limits;
-          frame_counts = counts_follow frame_of st st.limits.frames frames sound.frame_counts sound.state.frames space cells here frames' cells' next refl frames_follow;
-          slot_counts = counts_follow slot_of st st.limits.swap slots sound.slot_counts sound.state.slots space cells here slots' cells' next refl slots_follow;
-          full = full_stays st space cells cells' st.tables fronts here stay sound.full;
-        }
+        stays_sound st counts fronts sound space cells here cells' st.tables counts' fronts follow
+        (subst IsConsistent (sym (ap (λ p. p.1) (step_is 0 0 no_limbo right cells here enough cells' cells_are says refl))) (step_keeps st 0 0 c (omega arith) sound.state))
+        (full_stays st space cells cells' st.tables fronts here stay sound.full)
 
 -- pages that move stay mapped
-pub moved_stay : (to : ℕ → Cell → Cell) (grants : Grant) (first count : ℕ) (cells : AddressSpace) (q : ℕ) → IsSome (get cells q) → IsSome (get (moved_to to grants first count cells) q)
+moved_stay : (to : ℕ → Cell → Cell) (grants : Grant) (first count : ℕ) (cells : AddressSpace) (q : ℕ) → IsSome (get cells q) → IsSome (get (moved_to to grants first count cells) q)
 unfolding moved_to
 moved_stay to grants first count cells q there = change_stays cells first count (λ page. option_map (moved to (granted grants page))) (λ _ _. refl) q there
 
--- what the machine keeps, in the words of the definitions
-module _ (st : State) (frames slots fronts : List ℕ) (sound : IsSound st frames slots fronts) (space : ℕ) (cells : AddressSpace) (here : get st.spaces space ≡ Some cells) (at len : ℕ) where
-  abbrev first : ℕ
-  first = at / 4096
+-- a page moves by the counts as by the owners
+module _ (st : State) (counts : Counts) (fronts : List ℕ) (sound : IsSound st counts fronts) where
+  passes_is : (way : Move) (c : Cell) → passes way counts c ≡ moving_of st way c
+  passes_is Out (Anon perm) = refl
+  passes_is Out (File perm file index) = refl
+  passes_is Out (Mapped perm frame bytes) = ap (λ f. nat_eq (f frame) 1) (frames_are st counts fronts sound)
+  passes_is Out (Swapped perm slot bytes) = refl
+  passes_is In (Anon perm) = refl
+  passes_is In (File perm file index) = refl
+  passes_is In (Mapped perm frame bytes) = refl
+  passes_is In (Swapped perm slot bytes) = refl
 
-  abbrev count : ℕ
-  count = pages_of len
+  unused_is : (way : Move) → unused_of (taken way counts) ≡ free_of st way
+  unused_is Out = free_slots st counts fronts sound
+  unused_is In = free_frames st counts fronts sound
 
-  cells_here : space_at st space ≡ cells
-  cells_here = ap (λ o. unwrap_or o fin.empty) here
+  module _ (space : ℕ) (cells : AddressSpace) (here : get st.spaces space ≡ Some cells) where
+    -- at most as many pages move as there are numbers
+    pub few_move : (way : Move) (low n : ℕ) → length (keys_in cells low n (passes way counts)) ≤ 4096
+    few_move Out low n =
+        omega (arith, few_pass frame_of st.limits.frames low n (passes Out counts) st space cells here sound.state.shared_frames numbered, sound.limits.frames)
+      where
+        numbered : (q : ℕ) (c : Cell) → get cells q ≡ Some c → passes Out counts c ≡ true → (m : ℕ) × (frame_of c ≡ Some m) × (m < st.limits.frames)
+        numbered q (Mapped perm frame bytes) e h = (frame, refl, sound.state.frames space q frame (Mapped perm frame bytes) (cell_here st counts fronts sound space cells here q (Mapped perm frame bytes) e) refl)
+        numbered q (Anon perm) e h = absurd (true≢false (sym h))
+        numbered q (File perm file index) e h = absurd (true≢false (sym h))
+        numbered q (Swapped perm slot bytes) e h = absurd (true≢false (sym h))
+    few_move In low n =
+        omega (arith, few_pass slot_of st.limits.swap low n (passes In counts) st space cells here sound.state.shared_slots numbered, sound.limits.swap)
+      where
+        numbered : (q : ℕ) (c : Cell) → get cells q ≡ Some c → passes In counts c ≡ true → (m : ℕ) × (slot_of c ≡ Some m) × (m < st.limits.swap)
+        numbered q (Swapped perm slot bytes) e h = (slot, refl, sound.state.slots space q slot (Swapped perm slot bytes) (cell_here st counts fronts sound space cells here q (Swapped perm slot bytes) e) refl)
+        numbered q (Anon perm) e h = absurd (true≢false (sym h))
+        numbered q (File perm file index) e h = absurd (true≢false (sym h))
+        numbered q (Mapped perm frame bytes) e h = absurd (true≢false (sym h))
 
-  same_sole : (k : ℕ) (c : Cell) → get cells k ≡ Some c → is_sole (slice_index frames) c ≡ goes_out st c
-  same_sole k (Anon perm) h = refl
-  same_sole k (File perm file index) h = refl
-  same_sole k (Mapped perm frame bytes) h =
-      ap (λ n. nat_eq n 1) (counted_at (frame_owners st) st.limits.frames frames sound.frame_counts frame
-      (sound.state.frames space k frame (Mapped perm frame bytes) (ap (λ o. get (unwrap_or o fin.empty) k) here ∙ h) refl))
-  same_sole k (Swapped perm slot bytes) h = refl
+    -- what was counted of a range, in the words of the definitions
+    module _ (way : Move) (at len first count free need : ℕ) (right : is_page_range 4 at len ≡ true) (first_is : first ≡ at / 4096) (count_is : count ≡ pages_of len)
+        (free_is : free ≡ length (unused_of (taken way counts))) (need_is : need ≡ length (keys_in cells first count (passes way counts))) where
+      keys_are : keys_in cells first count (passes way counts) ≡ keys_of st way space at len
+      keys_are = (λ i. keys_in (sym (cells_here st counts fronts sound space cells here) i) (first_is i) (count_is i) (λ c. passes_is way c i))
 
-  out_keys : keys_in cells first count (is_sole (slice_index frames)) ≡ keys_in (space_at st space) first count (goes_out st)
-  out_keys = same_keys (is_sole (slice_index frames)) (goes_out st) cells first same_sole count ∙ ap (λ m. keys_in m first count (goes_out st)) (sym cells_here)
+      free_here : free ≡ length (free_of st way)
+      free_here = free_is ∙ ap length (unused_is way)
 
-  in_keys : keys_in cells first count comes_in ≡ keys_in (space_at st space) first count comes_in
-  in_keys = ap (λ m. keys_in m first count comes_in) (sym cells_here)
+      need_here : need ≡ length (keys_of st way space at len)
+      need_here = need_is ∙ ap length keys_are
 
-  free_slots : unused_of slots ≡ unused_slots st
-  free_slots = unused_counts (slot_owners st) st.limits.swap slots sound.slot_counts
+      lack_here : (b : Bool) → nat_lt (length (free_of st way)) (length (keys_of st way space at len)) ≡ b → lack_of st way space at len ≡ cond b (Some (too_few way free need)) None
+      lack_here b e = (λ i. cond (e i) (Some (too_few way (sym free_here i) (sym need_here i))) None)
 
-  free_frames : unused_of frames ≡ unused_frames st
-  free_frames = unused_counts (frame_owners st) st.limits.frames frames sound.frame_counts
+      pub move_stopped : free < need → (thread limbo : ℕ) → linked st + limbo ≤ st.limits.tables → (too_few way free need, st) ≡ step st thread (move_call way space at len) limbo
+      move_stopped less thread limbo legal =
+          stopped st (move_call way space at len) space at len _ _ _ (is_move st way space at len) thread limbo legal right cells here (too_few way free need)
+          (lack_here true (lt-ltb (length (free_of st way)) (length (keys_of st way space at len)) (omega (arith, less, free_here, need_here))))
 
-  pub out_reply : reply.Moved (length (keys_in cells first count (is_sole (slice_index frames)))) ≡ reply.Moved (length (keys_in (space_at st space) first count (goes_out st)))
-  out_reply = ap (λ l. reply.Moved (length l)) out_keys
+      module _ (fits : need ≤ free) (cells' : AddressSpace) (cells_are : cells' ≡ moved_to (to way) (grant (keys_in cells first count (passes way counts)) (unused_of (taken way counts))) first count cells) where
+        enough : lack_of st way space at len ≡ None
+        enough = lack_here false (le-ltb (length (free_of st way)) (length (keys_of st way space at len)) (omega (arith, fits, free_here, need_here)))
 
-  pub in_reply : reply.Moved (length (keys_in cells first count comes_in)) ≡ reply.Moved (length (keys_in (space_at st space) first count comes_in))
-  in_reply = ap (λ l. reply.Moved (length l)) in_keys
+        same_cells : cells' ≡ moved_cells st way space at len
+        same_cells = cells_are ∙ (λ i. moved_to (to way) (grant (keys_are i) (unused_is way i)) (first_is i) (count_is i) (sym (cells_here st counts fronts sound space cells here) i))
 
-  pub out_cells : moved_to out_to (grant (keys_in cells first count (is_sole (slice_index frames))) (unused_of slots)) first count cells ≡ moved_to out_to (slot_grants st (call.SwapOut space at len)) first count (space_at st space)
-  out_cells = (λ i. moved_to out_to (grant (out_keys i) (free_slots i)) first count (sym cells_here i))
+        pub move_made : (thread limbo : ℕ) → linked st + limbo ≤ st.limits.tables → (reply.Moved need, record st { spaces = fin.insert st.spaces space cells' }) ≡ step st thread (move_call way space at len) limbo
+        move_made thread limbo legal =
+            step_is st (move_call way space at len) space at len _ _ _ (is_move st way space at len) thread limbo legal right cells here enough cells' same_cells (reply.Moved need) (ap reply.Moved need_here)
 
-  pub in_cells : moved_to in_to (grant (keys_in cells first count comes_in) (unused_of frames)) first count cells ≡ moved_to in_to (frame_grants st (call.SwapIn space at len)) first count (space_at st space)
-  in_cells = (λ i. moved_to in_to (grant (in_keys i) (free_frames i)) first count (sym cells_here i))
-
-  pub out_lack : (b : Bool) → nat_lt (length (unused_of slots)) (length (keys_in cells first count (is_sole (slice_index frames)))) ≡ b →
-      no_swap st (call.SwapOut space at len) ≡ cond b (Some (reply.NoSwap (length (unused_of slots)) (length (keys_in cells first count (is_sole (slice_index frames)))))) None
-  out_lack b e =
-      sym (λ i. cond (nat_lt (length (free_slots i)) (length (out_keys i))) (Some (reply.NoSwap (length (free_slots i)) (length (out_keys i)))) None)
-      ∙ ap (λ b. cond b (Some (reply.NoSwap (length (unused_of slots)) (length (keys_in cells first count (is_sole (slice_index frames)))))) None) e
-
-  pub in_lack : (b : Bool) → nat_lt (length (unused_of frames)) (length (keys_in cells first count comes_in)) ≡ b →
-      no_frames st (call.SwapIn space at len) ≡ cond b (Some (reply.NoFrames (length (unused_of frames)) (length (keys_in cells first count comes_in)))) None
-  in_lack b e =
-      sym (λ i. cond (nat_lt (length (free_frames i)) (length (in_keys i))) (Some (reply.NoFrames (length (free_frames i)) (length (in_keys i)))) None)
-      ∙ ap (λ b. cond b (Some (reply.NoFrames (length (unused_of frames)) (length (keys_in cells first count comes_in)))) None) e
-
-  -- at most as many pages move as there are numbers
-  found : (q : ℕ) (c : Cell) → get cells q ≡ Some c → cell_at st space q ≡ Some c
-  found q c e = ap (λ o. get (unwrap_or o fin.empty) q) here ∙ e
-
-  pub out_few : (low n : ℕ) → length (keys_in cells low n (is_sole (slice_index frames))) ≤ 4096
-  out_few low n =
-      let few = few_pass frame_of st.limits.frames low n (is_sole (slice_index frames)) st space cells here sound.state.shared_frames numbered in
-      omega (arith, few, sound.limits.frames)
-    where
-      numbered : (q : ℕ) (c : Cell) → get cells q ≡ Some c → is_sole (slice_index frames) c ≡ true → (m : ℕ) × (frame_of c ≡ Some m) × (m < st.limits.frames)
-      numbered q (Mapped perm frame bytes) e h = (frame, refl, sound.state.frames space q frame (Mapped perm frame bytes) (found q (Mapped perm frame bytes) e) refl)
-      numbered q (Anon perm) e h = absurd (true≢false (sym h))
-      numbered q (File perm file index) e h = absurd (true≢false (sym h))
-      numbered q (Swapped perm slot bytes) e h = absurd (true≢false (sym h))
-
-  pub in_few : (low n : ℕ) → length (keys_in cells low n comes_in) ≤ 4096
-  in_few low n =
-      let few = few_pass slot_of st.limits.swap low n comes_in st space cells here sound.state.shared_slots numbered in
-      omega (arith, few, sound.limits.swap)
-    where
-      numbered : (q : ℕ) (c : Cell) → get cells q ≡ Some c → comes_in c ≡ true → (m : ℕ) × (slot_of c ≡ Some m) × (m < st.limits.swap)
-      numbered q (Swapped perm slot bytes) e h = (slot, refl, sound.state.slots space q slot (Swapped perm slot bytes) (found q (Swapped perm slot bytes) e) refl)
-      numbered q (Anon perm) e h = absurd (true≢false (sym h))
-      numbered q (File perm file index) e h = absurd (true≢false (sym h))
-      numbered q (Mapped perm frame bytes) e h = absurd (true≢false (sym h))
+        pub move_stays_sound : (counts' : Counts) → Follow counts counts' cells cells' → IsSound (record st { spaces = fin.insert st.spaces space cells' }) counts' fronts
+        move_stays_sound counts' follow =
+            move_sound st (move_call way space at len) space at len _ _ _ (is_move st way space at len) right cells here enough cells' same_cells counts fronts counts' sound follow
+            (λ q there. subst (λ m. IsSome (get m q)) (sym cells_are) (moved_stay (to way) _ first count cells q there))

@@ -15,7 +15,6 @@ use Rattle.corten_base.specs.declared.calls.TxnOp.{TxnOp}
 use Rattle.corten_base.specs.declared.calls.Why.{Why}
 use Rattle.table_place.specs.declared.Place.{Place}
 use Rattle.table_place.specs.Place.{is_page_range, pages_of}
-use Rattle.page_map.specs.Cell.{frame_of, slot_of}
 use Rattle.page_map.specs.Mapping.{is_right_within, undone, op_pages, after_ops}
 use Rattle.page_map.specs.State.{State, AddressSpace, IsConsistent, is_present, space_at, unused_frames, unused_slots}
 use Rattle.page_map.specs.Tables.{Tables}
@@ -26,8 +25,9 @@ use Rattle.page_map.proofs.Growth.{all_stay}
 use Rattle.page_map.proofs.Steps.{not_none, accepted, Passed, passed}
 use Rattle.page_map.proofs.StepKeeps.{step_keeps}
 use Rattle.plain_counts.specs.Fronts.{AreFull, IsFull, full_pages}
-use Rattle.plain_spaces.specs.Reach.{Follows}
-use Rattle.txn_plan.specs.Applies.{first_index}
+use Rattle.plain_counts.specs.declared.counts.Counts.{Counts}
+use Rattle.plain_counts.specs.Counts.{Follow}
+use Rattle.txn_plan.specs.Changes.{first_index}
 use Rattle.txn_plan.specs.Forgetting.{Forgets}
 use Rattle.txn_plan.specs.Needs.{IsInSpan}
 use Rattle.txn_plan.proofs.Rights.{all_in_span, all_fit}
@@ -35,7 +35,7 @@ use Rattle.txn_plan.proofs.Unmapping.{stays}
 use Rattle.mm_model.specs.Placing.{tables_lack}
 use Rattle.mm_model.specs.Plain.{IsSound}
 use Rattle.mm_model.specs.Transactions.{MayCommit, after_commit}
-use Rattle.mm_model.proofs.Carried.{counts_follow}
+use Rattle.mm_model.proofs.Kept.{stays_sound}
 
 nothing_short : (free : ℕ) (r : Reply) → ◌≡◌ {A = Option Reply} (cond (nat_lt free 0) (Some r) None) None
 nothing_short free r = ap (λ b. cond b (Some r) None) (le-ltb free 0 (omega arith))
@@ -161,12 +161,7 @@ module _ (st : State) (space : ℕ) (ops : List TxnOp) (may : MayCommit st space
           go false e =
               subst (λ m. IsFull m t (full_pages fronts' s t)) (sym (next_at s false e)) (subst (IsFull (space_at st s) t) (sym (forgets.others s t (eqb-false s space e) few)) (full s t small few))
 
-    pub commit_stays_sound : (frames slots fronts frames' slots' fronts' : List ℕ) → IsSound st frames slots fronts → Follows None frame_of frames frames' cells cells' → Follows None slot_of slots slots' cells cells' →
-        Forgets ops space fronts fronts' → IsSound next frames' slots' fronts'
-    commit_stays_sound frames slots fronts frames' slots' fronts' sound frames_follow slots_follow forgets = record {
-      state = subst IsConsistent (sym next_is) (stays_consistent sound.state);
-      limits = sound.limits;
-      frame_counts = counts_follow frame_of st st.limits.frames frames sound.frame_counts sound.state.frames space cells here frames' cells' next refl frames_follow;
-      slot_counts = counts_follow slot_of st st.limits.swap slots sound.slot_counts sound.state.slots space cells here slots' cells' next refl slots_follow;
-      full = still_full fronts fronts' sound.full forgets;
-    }
+    pub commit_stays_sound : (counts counts' : Counts) (fronts fronts' : List ℕ) → IsSound st counts fronts → Follow counts counts' cells cells' → Forgets ops space fronts fronts' → IsSound next counts' fronts'
+    commit_stays_sound counts counts' fronts fronts' sound follow forgets =
+        stays_sound st counts fronts sound space cells here cells' tables' counts' fronts' follow
+        (subst IsConsistent (sym next_is) (stays_consistent sound.state)) (still_full fronts fronts' sound.full forgets)

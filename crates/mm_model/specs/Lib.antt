@@ -4,3 +4,4 @@ pub mod Placing
 pub mod Served
 pub mod NewSpaces
 pub mod Transactions
+pub mod Moves

@@ -86,13 +86,13 @@ impl Plain {
                 };
                 self.map(alloc, thread, &mapping, *place, limbo)
             }
-            Call::Unmap { space, at, len } => Ok(self.unmap(*space, *at, *len)),
+            Call::Unmap { space, at, len } => self.unmap(alloc, *space, *at, *len),
             Call::Protect {
                 space,
                 at,
                 len,
                 perm,
-            } => Ok(self.protect(*space, *at, *len, *perm)),
+            } => self.protect(*space, *at, *len, *perm),
             Call::Load { space, at, len } => self.load(alloc, *space, *at, *len),
             Call::Store { space, at, bytes } => self.store(alloc, *space, *at, bytes),
             Call::Fault { space, at, write } => self.fault(alloc, *space, *at, *write),

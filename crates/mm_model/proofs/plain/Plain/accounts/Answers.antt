@@ -1,6 +1,7 @@
 use Rattle.std.proofs.Common.{◌-◌, length, ap, ◌∙◌, arith}
 use Rattle.page_map.specs.State.{accounts}
-use Rattle.mm_model.proofs.Counts.{unused_counts, unused_fit}
+use Rattle.mm_model.proofs.Counts.{unused_fit}
+use Rattle.mm_model.proofs.Kept.{free_frames, free_slots}
 use Rattle.mm_model.proofs.plain.Plain.accounts.Goals as goal
 
 pub overflow_sub-result : goal.overflow_sub-result
@@ -12,8 +13,8 @@ overflow_sub-result-2 c = omega (arith, c.free-swap_free.ensures, unused_fit _ _
 pub returns : goal.returns
 unfolding accounts
 returns c =
-    let frames = c.free-frames_free.ensures ∙ ap length (unused_counts _ _ _ c.self.invariant.frame_counts) in
-    let slots = c.free-swap_free.ensures ∙ ap length (unused_counts _ _ _ c.self.invariant.slot_counts) in
+    let frames = c.free-frames_free.ensures ∙ ap length (free_frames _ _ _ c.self.invariant) in
+    let slots = c.free-swap_free.ensures ∙ ap length (free_slots _ _ _ c.self.invariant) in
     (λ i. record {
       frames = c.self.inside.limits.frames;
       frames_free = frames i;

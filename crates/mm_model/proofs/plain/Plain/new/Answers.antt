@@ -10,9 +10,9 @@ unfolding start
 invariant_of-result-2 c =
     let spaces = c.spaces.view_is ∙ c.in_ok-spaces.ensures in
     let tables = c.in_ok-tables.ensures in
-    let P : State × List ℕ × List ℕ × List ℕ → Type 0 = λ x. IsSound x.0 x.1 x.2 x.3 in
-    subst P (λ i. (record { spaces = sym spaces i; tables = sym tables i; limits = c.args.limits; files = sym c.shelf.view_is i }, sym c.in_ok-new.ensures i, sym c.in_ok-new-2.ensures i, sym c.in_ok-new-3.ensures i))
-    (start_is_sound c.args.limits c.args.shelf c.requires)
+    let P : State × List ℕ → Type 0 = λ x. IsSound x.0 c.in_ok-new.field-0 x.1 in
+    subst P (λ i. (record { spaces = sym spaces i; tables = sym tables i; limits = c.args.limits; files = sym c.shelf.view_is i }, sym c.in_ok-new-2.ensures i))
+    (start_is_sound c.args.limits c.args.shelf c.requires c.in_ok-new.field-0 c.in_ok-new.ensures.frames c.in_ok-new.ensures.slots)
 
 pub returns-clause-ok : goal.returns-clause-ok
 unfolding start
