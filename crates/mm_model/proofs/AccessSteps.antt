@@ -28,24 +28,12 @@ use Rattle.page_map.proofs.Keys.{keys_in_more, chosen}
 use Rattle.page_map.proofs.Places.{place_total, place_exact}
 use Rattle.page_map.proofs.Evaluate.{union_empty, alike, difference_empty}
 use Rattle.plain_counts.specs.Owners.{unused_of}
+use Rattle.mm_model.specs.Accesses.{IsAccess, frames_lack, refused_in, after_making}
 use Rattle.mm_model.specs.Plain.{owner_counts}
-use Rattle.plain_spaces.specs.Reach.{reaching, storing, wants, wanting, lack, refused_in}
+use Rattle.plain_spaces.specs.Reach.{reaching, storing, wants, wanting}
 use Rattle.plain_spaces.proofs.Plans.{no_keys}
 use Rattle.mm_model.proofs.Counts.{unused_counts}
 use Rattle.mm_model.proofs.Carried.{counted_at}
-
--- what the definitions say of a call that makes this access to this space
-pub record IsAccess (st : State) (c : Call) (space : ℕ) (a : Access) : Type 0 where
-  pub arguments_are : arguments st c ≡ outside_user_pages 4 a
-  pub space_is : no_space st c ≡ refused_unless (is_present st space) reply.NoSpace
-  pub no_new : no_spaces st c ≡ None
-  pub no_mapping : (thread : ℕ) → no_place st thread c ≡ None
-  pub pages_are : pages st c ≡ refused_access st.files (space_at st space) a
-  pub no_wanted : (thread : ℕ) → wanted_tables st thread c ≡ []
-  pub frames_are : wanting_frames_of st c ≡ wanting_frames st (space_at st space) a
-  pub no_slots : wanting_slots_of st c ≡ []
-  pub none_left : (p : Place) → is_given_up st c p ≡ false
-  pub spaces_are : (thread : ℕ) → spaces_after st thread c ≡ fin.insert st.spaces space (after_access st.files (frame_grants st c) a (space_at st space))
 
 pub load_access : (st : State) (space at len : ℕ) → IsAccess st (call.Load space at len) space (reaching at len false)
 load_access st space at len = record {
@@ -152,44 +140,30 @@ module _ (st : State) (c : Call) (space : ℕ) (a : Access) (is : IsAccess st c 
       ap (λ l. cond (nat_lt (length (unused_slots st)) (length l)) (Some (reply.NoSwap (length (unused_slots st)) (length l))) None) is.no_slots
       ∙ ap (λ b. cond b (Some (reply.NoSwap (length (unused_slots st)) 0)) None) (le-ltb (length (unused_slots st)) 0 (omega arith))
 
-  frames_wanted : no_frames st c ≡ lack (length (unused_frames st)) (length (wanting_frames st (space_at st space) a))
-  frames_wanted = ap (λ l. lack (length (unused_frames st)) (length l)) is.frames_are
+  frames_wanted : no_frames st c ≡ frames_lack (length (unused_frames st)) (length (wanting_frames st (space_at st space) a))
+  frames_wanted = ap (λ l. frames_lack (length (unused_frames st)) (length l)) is.frames_are
 
-  -- what the space decides
-  abbrev decided : Option Reply
-  decided = option_or (refused_access st.files (space_at st space) a) (lack (length (unused_frames st)) (length (wanting_frames st (space_at st space) a)))
-
-  refusal_is : refusal st thread c limbo ≡ option_or (outside_user_pages 4 a) (option_or (refused_unless (is_present st space) reply.NoSpace) decided)
+  refusal_is : refusal st thread c limbo ≡ option_or (outside_user_pages 4 a) (refused_in st space a)
   unfolding refusal
   refusal_is =
       (λ i. first_refusal (is.arguments_are i ∷ is.space_is i ∷ is.no_new i ∷ is.no_mapping thread i ∷ is.pages_are i ∷ no_tables_wanted i ∷ frames_wanted i ∷ no_swap_wanted i ∷ []))
       ∙ ap (λ o. option_or (outside_user_pages 4 a) (option_or (refused_unless (is_present st space) reply.NoSpace) (option_or (refused_access st.files (space_at st space) a) o)))
-      (or_none (lack (length (unused_frames st)) (length (wanting_frames st (space_at st space) a))))
+      (or_none (frames_lack (length (unused_frames st)) (length (wanting_frames st (space_at st space) a))))
 
   pub refused_outside : (r : Reply) → outside_user_pages 4 a ≡ Some r → refusal st thread c limbo ≡ Some r
-  refused_outside r e = refusal_is ∙ ap (λ o. option_or o (option_or (refused_unless (is_present st space) reply.NoSpace) decided)) e
+  refused_outside r e = refusal_is ∙ ap (λ o. option_or o (refused_in st space a)) e
 
-  pub refused_absent : outside_user_pages 4 a ≡ None → get st.spaces space ≡ None → refusal st thread c limbo ≡ Some reply.NoSpace
-  refused_absent e absent = refusal_is ∙ (λ i. option_or (e i) (option_or (refused_unless (is_some (absent i)) reply.NoSpace) decided))
+  -- the space, its pages and the frames decide
+  pub decided_in : outside_user_pages 4 a ≡ None → refusal st thread c limbo ≡ refused_in st space a
+  decided_in e = refusal_is ∙ ap (λ o. option_or o (refused_in st space a)) e
 
-  module _ (frames : List ℕ) (are : frames ≡ owner_counts (frame_owners st) st.limits.frames)
-      (below : (s p n : ℕ) (c : Cell) → cell_at st s p ≡ Some c → frame_of c ≡ Some n → n < st.limits.frames) (cells : AddressSpace) (here : get st.spaces space ≡ Some cells) where
-    -- the pages and the frames decide
-    pub decided_inside : outside_user_pages 4 a ≡ None → refusal st thread c limbo ≡ refused_in st.files cells frames a
-    decided_inside e =
-        refusal_is
-        ∙ (λ i. option_or (e i) (option_or (refused_unless (is_some (here i)) reply.NoSpace)
-        (option_or (refused_access st.files (cells_here st frames are below space cells here a i) a)
-        (lack (length (sym (same_unused st frames are below space cells here a) i)) (length (sym (same_wanting st frames are below space cells here a) i))))))
-
-    -- and what an accepted call leaves
-    pub after_is : record st { spaces = fin.insert st.spaces space (after_access st.files (grant (wanting (slice_index frames) cells a) (unused_of frames)) a cells) } ≡ state_after st thread c
-    unfolding state_after
-    after_is = sym (λ i. record st {
-      spaces = (is.spaces_are thread ∙ (λ j. fin.insert st.spaces space (after_access st.files
-          (grant ((is.frames_are ∙ sym (same_wanting st frames are below space cells here a)) j) (sym (same_unused st frames are below space cells here a) j)) a (cells_here st frames are below space cells here a j)))) i;
-      tables = same_tables (is_given_up st c) is.none_left (wanted_tables st thread c) (is.no_wanted thread) st.tables i;
-    })
+  -- and what an accepted call leaves
+  pub after_is : after_making st space a ≡ state_after st thread c
+  unfolding state_after
+  after_is = sym (λ i. record st {
+    spaces = (is.spaces_are thread ∙ ap (λ ks. fin.insert st.spaces space (after_access st.files (grant ks (unused_frames st)) a (space_at st space))) is.frames_are) i;
+    tables = same_tables (is_given_up st c) is.none_left (wanted_tables st thread c) (is.no_wanted thread) st.tables i;
+  })
 
 pub load_answer : (st : State) (thread space at len : ℕ) (cells : AddressSpace) → get st.spaces space ≡ Some cells → reply.Bytes (loaded st.files cells (reaching at len false)) ≡ answer st thread (call.Load space at len)
 unfolding answer

@@ -18,7 +18,7 @@ use Rattle.page_map.specs.State.{State, AddressSpace, cell_at, carries, owners}
 use Rattle.page_map.proofs.Weights.{weight_insert, first, second, less}
 use Rattle.page_map.proofs.Owners.{one_weight}
 use Rattle.mm_model.specs.Plain.{owner_counts}
-use Rattle.plain_spaces.specs.Reach.{carried, IsCounted, Follows}
+use Rattle.plain_counts.specs.Counts.{carried, IsCounted, Follows}
 
 module _ {X : Type 0} (w : X → ℕ) where
   -- a key below all others is not among them
@@ -87,7 +87,7 @@ module _ (number_of : Cell → Option ℕ) (st : State) (limit : ℕ) (counts : 
           omega (arith, none)
 
   -- the counts stay those of the state where they follow the cells
-  pub counts_follow : (new : List ℕ) (cells' : AddressSpace) (next : State) → next.spaces ≡ fin.insert st.spaces space cells' → Follows None number_of counts new cells cells' → new ≡ owner_counts (owners number_of next) limit
+  pub counts_follow : (new : List ℕ) (cells' : AddressSpace) (next : State) → next.spaces ≡ fin.insert st.spaces space cells' → Follows number_of counts new cells cells' → new ≡ owner_counts (owners number_of next) limit
   unfolding owners
   counts_follow new cells' next is f = counts_from (owners number_of next) limit new (f.numbers ∙ counts_long (owners number_of st) limit counts are) (λ n h.
       let w : AddressSpace → ℕ = λ cells. count_by (carries number_of n) (fin.values cells) in

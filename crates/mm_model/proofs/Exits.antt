@@ -31,8 +31,8 @@ use Rattle.page_map.proofs.StepKeeps.{step_keeps}
 use Rattle.plain_counts.specs.Fronts.{AreFull, IsFull, full_pages, full_before}
 use Rattle.plain_counts.specs.Levels.{is_elsewhere}
 use Rattle.plain_spaces.specs.Copies.{AreLow}
-use Rattle.plain_spaces.specs.Reach.{carried, Follows}
-use Rattle.plain_spaces.proofs.Copied.{nothing_carried}
+use Rattle.plain_counts.specs.Counts.{carried, Follows}
+use Rattle.plain_spaces.proofs.Released.{nothing_carried}
 use Rattle.mm_model.specs.Plain.{IsSound, owner_counts}
 use Rattle.mm_model.proofs.AccessSteps.{no_need}
 use Rattle.mm_model.proofs.Carried.{counts_long, counts_from, counted_at}
@@ -71,28 +71,13 @@ module _ (st : State) (space thread limbo : ℕ) (legal : linked st + limbo ≤ 
 
 -- ---- counts
 
--- nothing is left of a space
-all_gone : (cells : AddressSpace) → AreLow cells → change cells 0 (2 ^ 35) (λ _ _. None) ≡ fin.empty
-all_gone cells low = same_map nat_cmp_total nat_cmp-IsAntisymmetric _ _ (λ q. get-change cells 0 (2 ^ 35) (λ _ _. None) q ∙ at q (within 0 (2 ^ 35) q) refl ∙ sym (get-empty nat_cmp q))
-  where
-    past : (q : ℕ) → 2 ^ 35 ≤ q → (o : Option Cell) → get cells q ≡ o → o ≡ None
-    past q a None e = refl
-    past q a (Some c) e = absurd (omega (arith, a, low q c e))
-
-    at : (q : ℕ) (b : Bool) → within 0 (2 ^ 35) q ≡ b → cond b None (get cells q) ≡ None
-    at q true e = refl
-    at q false e = elim (cases_lt q (2 ^ 35)) [
-      | inl before ↦ absurd (outside 0 (2 ^ 35) q e (omega arith) (omega (arith, before)))
-      | inr after ↦ past q after (get cells q) refl
-    ]
-
 module _ (number_of : Cell → Option ℕ) (st : State) (limit : ℕ) (counts : List ℕ) (are : counts ≡ owner_counts (owners number_of st) limit) (space : ℕ) (cells : AddressSpace) (here : get st.spaces space ≡ Some cells) where
-  pub left_counts : (gone : AddressSpace) (next : State) (after : List ℕ) → gone ≡ fin.empty → next.spaces ≡ fin.remove st.spaces space → Follows None number_of counts after cells gone → after ≡ owner_counts (owners number_of next) limit
+  pub left_counts : (next : State) (after : List ℕ) → next.spaces ≡ fin.remove st.spaces space → Follows number_of counts after cells fin.empty → after ≡ owner_counts (owners number_of next) limit
   unfolding owners
-  left_counts gone next after nothing is follows =
+  left_counts next after is follows =
       counts_from (owners number_of next) limit after (follows.numbers ∙ counts_long (owners number_of st) limit counts are) (λ n h.
       let w : AddressSpace → ℕ = λ cells. count_by (carries number_of n) (fin.values cells) in
-      let none : carried number_of n gone ≡ 0 = ap (carried number_of n) nothing ∙ nothing_carried number_of n in
+      let none : carried number_of n fin.empty ≡ 0 = nothing_carried number_of n in
       let becomes : owners number_of next n ≡ sum_by w (fin.values (fin.remove st.spaces space)) = ap (λ m. sum_by w (fin.values m)) is in
       omega (arith, follows.counts n, none, becomes, weight_at w st.spaces space cells here, counted_at (owners number_of st) limit counts are n h))
 
@@ -117,20 +102,19 @@ exit_full st next space fronts fronts' is full known others s t small few = go (
         subst (IsFull (space_at next s) t) (sym none) (record { within = omega arith; cells_there = λ q a b. absurd (omega (arith, a, b)) })
 
 -- what the machine keeps
-pub exit_sound : (st : State) (space : ℕ) (cells gone : AddressSpace) (spaces : fin.FinMap nat_cmp AddressSpace) (tables : Tables) (frames slots fronts frames' slots' fronts' : List ℕ) → IsSound st frames slots fronts → get st.spaces space ≡ Some cells →
-    spaces ≡ fin.remove st.spaces space → tables ≡ set.retain st.tables (is_elsewhere space) → gone ≡ change cells 0 (2 ^ 35) (λ _ _. None) →
-    Follows None frame_of frames frames' cells gone → Follows None slot_of slots slots' cells gone →
+pub exit_sound : (st : State) (space : ℕ) (cells : AddressSpace) (spaces : fin.FinMap nat_cmp AddressSpace) (tables : Tables) (frames slots fronts frames' slots' fronts' : List ℕ) → IsSound st frames slots fronts → get st.spaces space ≡ Some cells →
+    spaces ≡ fin.remove st.spaces space → tables ≡ set.retain st.tables (is_elsewhere space) →
+    Follows frame_of frames frames' cells fin.empty → Follows slot_of slots slots' cells fin.empty →
     ((t : ℕ) → t < 8 → full_pages fronts' space t ≡ full_before (arena_first t) (full_pages fronts space t) 0 (2 ^ 35)) → ((s t : ℕ) → (s ≡ space → ⊥) → t < 8 → full_pages fronts' s t ≡ full_pages fronts s t) →
     IsSound (record st { spaces = spaces; tables = tables }) frames' slots' fronts'
-exit_sound st space cells gone spaces tables frames slots fronts frames' slots' fronts' sound here without left is follow_frames follow_slots known others =
+exit_sound st space cells spaces tables frames slots fronts frames' slots' fronts' sound here without left follow_frames follow_slots known others =
     let next : State = record st { spaces = spaces; tables = tables } in
     let no_limbo : linked st + 0 ≤ st.limits.tables = omega (arith, sound.state.tables) in
-    let nothing = is ∙ all_gone cells (cells_low st space cells sound.state here) in
     record {
       state = subst IsConsistent (sym (ap (λ p. p.1) (exit_step st space 0 0 no_limbo cells here spaces without tables left))) (step_keeps st 0 0 (call.Exit space) (omega arith) sound.state);
       limits = sound.limits;
-      frame_counts = left_counts frame_of st st.limits.frames frames sound.frame_counts space cells here gone next frames' nothing without follow_frames;
-      slot_counts = left_counts slot_of st st.limits.swap slots sound.slot_counts space cells here gone next slots' nothing without follow_slots;
+      frame_counts = left_counts frame_of st st.limits.frames frames sound.frame_counts space cells here next frames' without follow_frames;
+      slot_counts = left_counts slot_of st st.limits.swap slots sound.slot_counts space cells here next slots' without follow_slots;
       full = exit_full st next space fronts fronts' without sound.full known others;
     }
 

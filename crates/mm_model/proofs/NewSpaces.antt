@@ -29,7 +29,7 @@ use Rattle.page_map.proofs.Above.{any_append}
 use Rattle.plain_counts.specs.Levels.{is_elsewhere}
 use Rattle.plain_counts.specs.Fronts.{AreFull}
 use Rattle.plain_spaces.specs.Copies.{IsRoomy, JoinsAll, IsNewTo, tables_above, new_tables}
-use Rattle.plain_spaces.specs.Reach.{carried, IsCounted}
+use Rattle.plain_counts.specs.Counts.{carried, IsCounted}
 use Rattle.plain_spaces.proofs.NewTables.{others_stay, none_lost, above_mine, root_mine}
 use Rattle.mm_model.specs.Placing.{tables_lack}
 use Rattle.mm_model.specs.Plain.{IsSound, owner_counts}

@@ -19,7 +19,7 @@ use Rattle.page_map.specs.Effect.{answer}
 use Rattle.page_map.proofs.Steps.{accepted, refused}
 use Rattle.page_map.proofs.StepKeeps.{step_keeps}
 use Rattle.plain_counts.specs.Fronts.{AreFull}
-use Rattle.plain_spaces.specs.Reach.{Follows}
+use Rattle.plain_counts.specs.Counts.{Follows}
 use Rattle.mm_model.specs.Plain.{IsSound}
 use Rattle.mm_model.proofs.Carried.{counts_follow}
 use Rattle.mm_model.proofs.OpSteps.{IsOp, missing, passes, after_is, refused_wrong, refused_absent, refused_by}
@@ -54,7 +54,7 @@ module _ (st : State) (c : Call) (space : ℕ) (o : TxnOp) (wanted : List Place)
         ∙ sym (accepted st thread c limbo (passes st c space o wanted given_up says is thread limbo right cells here allowed fits))
 
     pub op_stays_sound : (frames slots fronts frames' slots' fronts' : List ℕ) → IsSound st frames slots fronts → (limbo : ℕ) → linked st + missing st c space o wanted given_up says is + limbo ≤ st.limits.tables →
-        Follows None frame_of frames frames' cells cells' → Follows None slot_of slots slots' cells cells' → AreFull next fronts' → IsSound next frames' slots' fronts'
+        Follows frame_of frames frames' cells cells' → Follows slot_of slots slots' cells cells' → AreFull next fronts' → IsSound next frames' slots' fronts'
     op_stays_sound frames slots fronts frames' slots' fronts' sound limbo fits frames_follow slots_follow full = record {
       state = subst IsConsistent (sym (ap (λ p. p.1) (step_is 0 limbo fits))) (step_keeps st 0 limbo c (omega arith) sound.state);
       limits = sound.limits;

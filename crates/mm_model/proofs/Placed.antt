@@ -20,9 +20,9 @@ use Rattle.page_map.proofs.Growth.{all_stay}
 use Rattle.page_map.proofs.Mappings.{gap_user, page_range}
 use Rattle.page_map.proofs.Steps.{Passed, passed, accepted}
 use Rattle.page_map.proofs.Unmapped.{held_of}
-use Rattle.plain_spaces.specs.Backing.{index_of}
+use Rattle.page_runs.specs.Mark.{index_of}
 use Rattle.plain_counts.specs.Fronts.{AreFull}
-use Rattle.plain_spaces.specs.Reach.{Follows}
+use Rattle.plain_counts.specs.Counts.{Follows}
 use Rattle.mm_model.specs.Placing.{IsPlaced, MayPut, after_put, call_of, filled, tables_with}
 use Rattle.mm_model.specs.Plain.{IsSound}
 use Rattle.mm_model.specs.declared.mapping.Mapping.{Mapping}
@@ -62,7 +62,7 @@ module _ (st : State) (m : Mapping) (first : ℕ) (may : MayPut st m first) wher
   -- what the machine keeps
   pub put_stays_sound : (cells cells' : AddressSpace) (tables' : Tables) (frames slots fronts frames' slots' : List ℕ) → map.get st.spaces m.space ≡ Some cells →
       cells' ≡ filled m first cells → tables' ≡ tables_with m first st.tables → IsSound st frames slots fronts →
-      Follows None frame_of frames frames' cells cells' → Follows None slot_of slots slots' cells cells' → AreFull (record st { spaces = map.insert st.spaces m.space cells'; tables = tables' }) fronts →
+      Follows frame_of frames frames' cells cells' → Follows slot_of slots slots' cells cells' → AreFull (record st { spaces = map.insert st.spaces m.space cells'; tables = tables' }) fronts →
       IsSound (record st { spaces = map.insert st.spaces m.space cells'; tables = tables' }) frames' slots' fronts
   unfolding after_op
   put_stays_sound cells cells' tables' frames slots fronts frames' slots' here cells_are tables_are sound frames_follow slots_follow full =

@@ -29,8 +29,8 @@ use Rattle.page_map.proofs.Owners.{one_weight}
 use Rattle.page_map.proofs.Steps.{accepted, refused, not_none}
 use Rattle.page_map.proofs.StepKeeps.{step_keeps}
 use Rattle.plain_spaces.specs.Copies.{AreLow, tables_above, new_tables}
-use Rattle.plain_spaces.specs.Reach.{carried}
-use Rattle.plain_spaces.proofs.Copied.{nothing_carried}
+use Rattle.plain_counts.specs.Counts.{carried}
+use Rattle.plain_spaces.proofs.Released.{nothing_carried}
 use Rattle.mm_model.specs.Placing.{tables_lack}
 use Rattle.mm_model.specs.NewSpaces.{with_space, AreOwned, MayMake, made, made_unless}
 

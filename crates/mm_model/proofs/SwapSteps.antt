@@ -1,7 +1,7 @@
 -- The step of a call that moves pages to swap or back.
 use Rattle.std.proofs.Common.{◌≡◌, ℕ, ◌+◌, ◌/◌, ◌<◌, ◌≤◌, Bool, true, false, cond, List, [], ◌∷◌, length, refl, sym, ap, subst, ◌∙◌, arith}
 use mathlib.Core.Bool.{true≢false}
-use Rattle.std.specs.Prelude.{Option, Some, None, IsSome, is_some, nat_eq, nat_lt, slice_index}
+use Rattle.std.specs.Prelude.{Option, Some, None, IsSome, is_some, nat_eq, nat_lt}
 use Rattle.std.specs.Option.{option_or, option_map, unwrap_or}
 use Rattle.std.proofs.lemmas.Bool.{le-ltb}
 use Rattle.std.specs.FinMap as fin
@@ -25,8 +25,12 @@ use Rattle.page_map.specs.Step.{step, refusal, first_refusal, refused_unless, ar
 use Rattle.page_map.proofs.Steps.{accepted, refused}
 use Rattle.page_map.proofs.StepKeeps.{step_keeps}
 use Rattle.plain_counts.specs.Owners.{unused_of}
-use Rattle.plain_spaces.specs.Reach.{Follows}
-use Rattle.plain_spaces.specs.Swapping.{is_sole}
+use Rattle.plain_counts.specs.Counts.{Follows}
+use Rattle.plain_counts.specs.declared.counts.Counts.{Counts}
+use Rattle.plain_spaces.specs.Swapping.{passes, taken, to}
+use Rattle.plain_spaces.specs.declared.swap.Move.{Move}
+use Rattle.plain_spaces.specs.declared.swap.Move.TheVariants.{Out, In}
+use Rattle.mm_model.specs.Swapping.{lack_reply, move_call}
 use Rattle.mm_model.specs.Plain.{IsSound}
 use Rattle.mm_model.proofs.AccessSteps.{no_need, same_tables, same_keys}
 use Rattle.mm_model.proofs.Bounds.{few_pass}
@@ -54,7 +58,7 @@ or_none (Some x) = refl
 none_short : (free : ℕ) (r : ℕ → Reply) → cond (nat_lt free 0) (Some (r 0)) None ≡ None
 none_short free r = ap (λ b. cond b (Some (r 0)) None) (le-ltb free 0 (omega arith))
 
-pub out_move : (st : State) (space at len : ℕ) → IsMove st (call.SwapOut space at len) space at len (no_swap st (call.SwapOut space at len))
+out_move : (st : State) (space at len : ℕ) → IsMove st (call.SwapOut space at len) space at len (no_swap st (call.SwapOut space at len))
     (moved_to out_to (slot_grants st (call.SwapOut space at len)) (at / 4096) (pages_of len) (space_at st space)) (reply.Moved (length (keys_in (space_at st space) (at / 4096) (pages_of len) (goes_out st))))
 unfolding answer
 out_move st space at len = record {
@@ -70,7 +74,7 @@ out_move st space at len = record {
   answer_is = λ _. refl;
 }
 
-pub in_move : (st : State) (space at len : ℕ) → IsMove st (call.SwapIn space at len) space at len (no_frames st (call.SwapIn space at len))
+in_move : (st : State) (space at len : ℕ) → IsMove st (call.SwapIn space at len) space at len (no_frames st (call.SwapIn space at len))
     (moved_to in_to (frame_grants st (call.SwapIn space at len)) (at / 4096) (pages_of len) (space_at st space)) (reply.Moved (length (keys_in (space_at st space) (at / 4096) (pages_of len) comes_in)))
 unfolding answer
 in_move st space at len = record {
@@ -85,6 +89,29 @@ in_move st space at len = record {
   spaces_are = λ _. refl;
   answer_is = λ _. refl;
 }
+
+-- the pages that move, the numbers that they get, and the refusal where these are too few
+abbrev pub goes : Move → State → Cell → Bool
+goes Out st = goes_out st
+goes In st = comes_in
+
+abbrev pub grants_for : Move → State → ℕ → ℕ → ℕ → Grant
+grants_for Out st space at len = slot_grants st (call.SwapOut space at len)
+grants_for In st space at len = frame_grants st (call.SwapIn space at len)
+
+abbrev pub lack_of : Move → State → ℕ → ℕ → ℕ → Option Reply
+lack_of Out st space at len = no_swap st (call.SwapOut space at len)
+lack_of In st space at len = no_frames st (call.SwapIn space at len)
+
+abbrev pub moved_cells : Move → State → ℕ → ℕ → ℕ → AddressSpace
+moved_cells way st space at len = moved_to (to way) (grants_for way st space at len) (at / 4096) (pages_of len) (space_at st space)
+
+abbrev pub moved_reply : Move → State → ℕ → ℕ → ℕ → Reply
+moved_reply way st space at len = reply.Moved (length (keys_in (space_at st space) (at / 4096) (pages_of len) (goes way st)))
+
+pub way_move : (way : Move) (st : State) (space at len : ℕ) → IsMove st (move_call way space at len) space at len (lack_of way st space at len) (moved_cells way st space at len) (moved_reply way st space at len)
+way_move Out st space at len = out_move st space at len
+way_move In st space at len = in_move st space at len
 
 module _ (st : State) (c : Call) (space at len : ℕ) (lack : Option Reply) (after : AddressSpace) (says : Reply) (is : IsMove st c space at len lack after says) where
   module _ (thread limbo : ℕ) (legal : linked st + limbo ≤ st.limits.tables) where
@@ -126,7 +153,7 @@ module _ (st : State) (c : Call) (space at len : ℕ) (lack : Option Reply) (aft
           step_is = (λ i. ((reply_is ∙ sym (is.answer_is thread)) i, after_is i)) ∙ sym (accepted st thread c limbo (decided ∙ enough))
 
   module _ (right : is_page_range 4 at len ≡ true) (cells : AddressSpace) (here : get st.spaces space ≡ Some cells) (enough : lack ≡ None) (cells' : AddressSpace) (cells_are : cells' ≡ after) where
-    pub move_stays_sound : (frames slots fronts frames' slots' : List ℕ) → IsSound st frames slots fronts → Follows None frame_of frames frames' cells cells' → Follows None slot_of slots slots' cells cells' →
+    pub move_stays_sound : (frames slots fronts frames' slots' : List ℕ) → IsSound st frames slots fronts → Follows frame_of frames frames' cells cells' → Follows slot_of slots slots' cells cells' →
         ((q : ℕ) → IsSome (get cells q) → IsSome (get cells' q)) → IsSound (record st { spaces = fin.insert st.spaces space cells' }) frames' slots' fronts
     move_stays_sound frames slots fronts frames' slots' sound frames_follow slots_follow stay =
         let next : State = record st { spaces = fin.insert st.spaces space cells' } in
@@ -145,7 +172,7 @@ unfolding moved_to
 moved_stay to grants first count cells q there = change_stays cells first count (λ page. option_map (moved to (granted grants page))) (λ _ _. refl) q there
 
 -- what the machine keeps, in the words of the definitions
-module _ (st : State) (frames slots fronts : List ℕ) (sound : IsSound st frames slots fronts) (space : ℕ) (cells : AddressSpace) (here : get st.spaces space ≡ Some cells) (at len : ℕ) where
+module _ (st : State) (counts : Counts) (fronts : List ℕ) (sound : IsSound st counts.frames counts.slots fronts) (space : ℕ) (cells : AddressSpace) (here : get st.spaces space ≡ Some cells) (at len : ℕ) where
   abbrev first : ℕ
   first = at / 4096
 
@@ -155,71 +182,65 @@ module _ (st : State) (frames slots fronts : List ℕ) (sound : IsSound st frame
   cells_here : space_at st space ≡ cells
   cells_here = ap (λ o. unwrap_or o fin.empty) here
 
-  same_sole : (k : ℕ) (c : Cell) → get cells k ≡ Some c → is_sole (slice_index frames) c ≡ goes_out st c
-  same_sole k (Anon perm) h = refl
-  same_sole k (File perm file index) h = refl
-  same_sole k (Mapped perm frame bytes) h =
-      ap (λ n. nat_eq n 1) (counted_at (frame_owners st) st.limits.frames frames sound.frame_counts frame
+  same_tests : (way : Move) (k : ℕ) (c : Cell) → get cells k ≡ Some c → passes way counts c ≡ goes way st c
+  same_tests Out k (Anon perm) h = refl
+  same_tests Out k (File perm file index) h = refl
+  same_tests Out k (Mapped perm frame bytes) h =
+      ap (λ n. nat_eq n 1) (counted_at (frame_owners st) st.limits.frames counts.frames sound.frame_counts frame
       (sound.state.frames space k frame (Mapped perm frame bytes) (ap (λ o. get (unwrap_or o fin.empty) k) here ∙ h) refl))
-  same_sole k (Swapped perm slot bytes) h = refl
+  same_tests Out k (Swapped perm slot bytes) h = refl
+  same_tests In k (Anon perm) h = refl
+  same_tests In k (File perm file index) h = refl
+  same_tests In k (Mapped perm frame bytes) h = refl
+  same_tests In k (Swapped perm slot bytes) h = refl
 
-  out_keys : keys_in cells first count (is_sole (slice_index frames)) ≡ keys_in (space_at st space) first count (goes_out st)
-  out_keys = same_keys (is_sole (slice_index frames)) (goes_out st) cells first same_sole count ∙ ap (λ m. keys_in m first count (goes_out st)) (sym cells_here)
+  abbrev keys : Move → List ℕ
+  keys way = keys_in cells first count (passes way counts)
 
-  in_keys : keys_in cells first count comes_in ≡ keys_in (space_at st space) first count comes_in
-  in_keys = ap (λ m. keys_in m first count comes_in) (sym cells_here)
+  keys_are : (way : Move) → keys way ≡ keys_in (space_at st space) first count (goes way st)
+  keys_are way = same_keys (passes way counts) (goes way st) cells first (same_tests way) count ∙ ap (λ m. keys_in m first count (goes way st)) (sym cells_here)
 
-  free_slots : unused_of slots ≡ unused_slots st
-  free_slots = unused_counts (slot_owners st) st.limits.swap slots sound.slot_counts
+  free_slots : unused_of counts.slots ≡ unused_slots st
+  free_slots = unused_counts (slot_owners st) st.limits.swap counts.slots sound.slot_counts
 
-  free_frames : unused_of frames ≡ unused_frames st
-  free_frames = unused_counts (frame_owners st) st.limits.frames frames sound.frame_counts
+  free_frames : unused_of counts.frames ≡ unused_frames st
+  free_frames = unused_counts (frame_owners st) st.limits.frames counts.frames sound.frame_counts
 
-  pub out_reply : reply.Moved (length (keys_in cells first count (is_sole (slice_index frames)))) ≡ reply.Moved (length (keys_in (space_at st space) first count (goes_out st)))
-  out_reply = ap (λ l. reply.Moved (length l)) out_keys
+  pub way_reply : (way : Move) → reply.Moved (length (keys way)) ≡ moved_reply way st space at len
+  way_reply way = ap (λ l. reply.Moved (length l)) (keys_are way)
 
-  pub in_reply : reply.Moved (length (keys_in cells first count comes_in)) ≡ reply.Moved (length (keys_in (space_at st space) first count comes_in))
-  in_reply = ap (λ l. reply.Moved (length l)) in_keys
+  pub way_cells : (way : Move) → moved_to (to way) (grant (keys way) (unused_of (taken way counts))) first count cells ≡ moved_cells way st space at len
+  way_cells Out = (λ i. moved_to out_to (grant (keys_are Out i) (free_slots i)) first count (sym cells_here i))
+  way_cells In = (λ i. moved_to in_to (grant (keys_are In i) (free_frames i)) first count (sym cells_here i))
 
-  pub out_cells : moved_to out_to (grant (keys_in cells first count (is_sole (slice_index frames))) (unused_of slots)) first count cells ≡ moved_to out_to (slot_grants st (call.SwapOut space at len)) first count (space_at st space)
-  out_cells = (λ i. moved_to out_to (grant (out_keys i) (free_slots i)) first count (sym cells_here i))
-
-  pub in_cells : moved_to in_to (grant (keys_in cells first count comes_in) (unused_of frames)) first count cells ≡ moved_to in_to (frame_grants st (call.SwapIn space at len)) first count (space_at st space)
-  in_cells = (λ i. moved_to in_to (grant (in_keys i) (free_frames i)) first count (sym cells_here i))
-
-  pub out_lack : (b : Bool) → nat_lt (length (unused_of slots)) (length (keys_in cells first count (is_sole (slice_index frames)))) ≡ b →
-      no_swap st (call.SwapOut space at len) ≡ cond b (Some (reply.NoSwap (length (unused_of slots)) (length (keys_in cells first count (is_sole (slice_index frames)))))) None
-  out_lack b e =
-      sym (λ i. cond (nat_lt (length (free_slots i)) (length (out_keys i))) (Some (reply.NoSwap (length (free_slots i)) (length (out_keys i)))) None)
-      ∙ ap (λ b. cond b (Some (reply.NoSwap (length (unused_of slots)) (length (keys_in cells first count (is_sole (slice_index frames)))))) None) e
-
-  pub in_lack : (b : Bool) → nat_lt (length (unused_of frames)) (length (keys_in cells first count comes_in)) ≡ b →
-      no_frames st (call.SwapIn space at len) ≡ cond b (Some (reply.NoFrames (length (unused_of frames)) (length (keys_in cells first count comes_in)))) None
-  in_lack b e =
-      sym (λ i. cond (nat_lt (length (free_frames i)) (length (in_keys i))) (Some (reply.NoFrames (length (free_frames i)) (length (in_keys i)))) None)
-      ∙ ap (λ b. cond b (Some (reply.NoFrames (length (unused_of frames)) (length (keys_in cells first count comes_in)))) None) e
+  pub way_lack : (way : Move) (b : Bool) → nat_lt (length (unused_of (taken way counts))) (length (keys way)) ≡ b →
+      lack_of way st space at len ≡ cond b (Some (lack_reply way (length (unused_of (taken way counts))) (length (keys way)))) None
+  way_lack Out b e =
+      sym (λ i. cond (nat_lt (length (free_slots i)) (length (keys_are Out i))) (Some (reply.NoSwap (length (free_slots i)) (length (keys_are Out i)))) None)
+      ∙ ap (λ b. cond b (Some (reply.NoSwap (length (unused_of counts.slots)) (length (keys Out)))) None) e
+  way_lack In b e =
+      sym (λ i. cond (nat_lt (length (free_frames i)) (length (keys_are In i))) (Some (reply.NoFrames (length (free_frames i)) (length (keys_are In i)))) None)
+      ∙ ap (λ b. cond b (Some (reply.NoFrames (length (unused_of counts.frames)) (length (keys In)))) None) e
 
   -- at most as many pages move as there are numbers
   found : (q : ℕ) (c : Cell) → get cells q ≡ Some c → cell_at st space q ≡ Some c
   found q c e = ap (λ o. get (unwrap_or o fin.empty) q) here ∙ e
 
-  pub out_few : (low n : ℕ) → length (keys_in cells low n (is_sole (slice_index frames))) ≤ 4096
-  out_few low n =
-      let few = few_pass frame_of st.limits.frames low n (is_sole (slice_index frames)) st space cells here sound.state.shared_frames numbered in
+  pub way_few : (way : Move) (low n : ℕ) → length (keys_in cells low n (passes way counts)) ≤ 4096
+  way_few Out low n =
+      let few = few_pass frame_of st.limits.frames low n (passes Out counts) st space cells here sound.state.shared_frames numbered in
       omega (arith, few, sound.limits.frames)
     where
-      numbered : (q : ℕ) (c : Cell) → get cells q ≡ Some c → is_sole (slice_index frames) c ≡ true → (m : ℕ) × (frame_of c ≡ Some m) × (m < st.limits.frames)
+      numbered : (q : ℕ) (c : Cell) → get cells q ≡ Some c → passes Out counts c ≡ true → (m : ℕ) × (frame_of c ≡ Some m) × (m < st.limits.frames)
       numbered q (Mapped perm frame bytes) e h = (frame, refl, sound.state.frames space q frame (Mapped perm frame bytes) (found q (Mapped perm frame bytes) e) refl)
       numbered q (Anon perm) e h = absurd (true≢false (sym h))
       numbered q (File perm file index) e h = absurd (true≢false (sym h))
       numbered q (Swapped perm slot bytes) e h = absurd (true≢false (sym h))
-
-  pub in_few : (low n : ℕ) → length (keys_in cells low n comes_in) ≤ 4096
-  in_few low n =
-      let few = few_pass slot_of st.limits.swap low n comes_in st space cells here sound.state.shared_slots numbered in
+  way_few In low n =
+      let few = few_pass slot_of st.limits.swap low n (passes In counts) st space cells here sound.state.shared_slots numbered in
       omega (arith, few, sound.limits.swap)
     where
-      numbered : (q : ℕ) (c : Cell) → get cells q ≡ Some c → comes_in c ≡ true → (m : ℕ) × (slot_of c ≡ Some m) × (m < st.limits.swap)
+      numbered : (q : ℕ) (c : Cell) → get cells q ≡ Some c → passes In counts c ≡ true → (m : ℕ) × (slot_of c ≡ Some m) × (m < st.limits.swap)
       numbered q (Swapped perm slot bytes) e h = (slot, refl, sound.state.slots space q slot (Swapped perm slot bytes) (found q (Swapped perm slot bytes) e) refl)
       numbered q (Anon perm) e h = absurd (true≢false (sym h))
       numbered q (File perm file index) e h = absurd (true≢false (sym h))

@@ -26,8 +26,8 @@ use Rattle.page_map.proofs.Growth.{all_stay}
 use Rattle.page_map.proofs.Steps.{not_none, accepted, Passed, passed}
 use Rattle.page_map.proofs.StepKeeps.{step_keeps}
 use Rattle.plain_counts.specs.Fronts.{AreFull, IsFull, full_pages}
-use Rattle.plain_spaces.specs.Reach.{Follows}
-use Rattle.txn_plan.specs.Applies.{first_index}
+use Rattle.plain_counts.specs.Counts.{Follows}
+use Rattle.txn_plan.specs.Changes.{first_index}
 use Rattle.txn_plan.specs.Forgetting.{Forgets}
 use Rattle.txn_plan.specs.Needs.{IsInSpan}
 use Rattle.txn_plan.proofs.Rights.{all_in_span, all_fit}
@@ -161,7 +161,7 @@ module _ (st : State) (space : ℕ) (ops : List TxnOp) (may : MayCommit st space
           go false e =
               subst (λ m. IsFull m t (full_pages fronts' s t)) (sym (next_at s false e)) (subst (IsFull (space_at st s) t) (sym (forgets.others s t (eqb-false s space e) few)) (full s t small few))
 
-    pub commit_stays_sound : (frames slots fronts frames' slots' fronts' : List ℕ) → IsSound st frames slots fronts → Follows None frame_of frames frames' cells cells' → Follows None slot_of slots slots' cells cells' →
+    pub commit_stays_sound : (frames slots fronts frames' slots' fronts' : List ℕ) → IsSound st frames slots fronts → Follows frame_of frames frames' cells cells' → Follows slot_of slots slots' cells cells' →
         Forgets ops space fronts fronts' → IsSound next frames' slots' fronts'
     commit_stays_sound frames slots fronts frames' slots' fronts' sound frames_follow slots_follow forgets = record {
       state = subst IsConsistent (sym next_is) (stays_consistent sound.state);

@@ -3,4 +3,5 @@ pub mod Accesses
 pub mod Placing
 pub mod Served
 pub mod NewSpaces
+pub mod Swapping
 pub mod Transactions

@@ -11,7 +11,7 @@ use Rattle.page_map.specs.declared.cell.Cell.{Cell}
 use Rattle.page_map.specs.Cell.{frame_of, slot_of}
 use Rattle.page_map.specs.State.{State, AddressSpace, IsConsistent, frame_owners, slot_owners}
 use Rattle.plain_spaces.specs.Copies.{AreLow, new_tables}
-use Rattle.plain_spaces.specs.Reach.{carried}
+use Rattle.plain_counts.specs.Counts.{carried}
 use Rattle.mm_model.specs.Placing.{tables_lack}
 
 abbrev pub with_space : State → ℕ → AddressSpace → State

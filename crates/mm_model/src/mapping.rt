@@ -2,21 +2,22 @@
 ghost use Rattle.std.specs.Prelude.{◌≡◌, ℕ, ◌+◌, ◌<◌, ◌≤◌, ◌^◌, cond, is_some, Some, None, IfOk, IfErr, OnOk, OnErr};
 ghost use Rattle.std.specs.FinMap as map;
 ghost use Rattle.table_place.specs.Place.{above, pages_of};
-ghost use Rattle.page_map.specs.Cell.{frame_of, slot_of};
 ghost use Rattle.page_map.specs.Change.{least};
 ghost use Rattle.page_map.specs.Mapping.{is_mappable};
 ghost use Rattle.page_map.specs.State.{linked};
 ghost use Rattle.page_map.specs.Step.{refusal, step};
-ghost use Rattle.plain_spaces.specs.Backing.{index_of};
-ghost use Rattle.plain_spaces.specs.Reach.{IsCounted, Follows, Keeps};
+ghost use Rattle.page_runs.specs.Mark.{index_of};
+ghost use Rattle.plain_counts.specs.Counts.{AreCounted, Follow};
+ghost use Rattle.plain_spaces.specs.Numbers.{Keeps};
 ghost use Rattle.mm_model.specs.Placing.{call_of, call_at, IsPlaced, IsFixed, MayPut, after_put, filled, tables_with, tables_lack};
 
 use crate::lacking::lack;
 use crate::plain::Plain;
 use corten_base::{Backing, Perm, Range, Reply, SpaceId};
 use file_shelf::Shelf;
-use plain_counts::{Owners, Tables};
-use plain_spaces::{AddressSpace, NewPages};
+use plain_counts::{Counts, Tables};
+use plain_spaces::map_pages;
+use space_cells::{AddressSpace, Mark, Run};
 use std::alloc::{AllocError, Global};
 use txn_plan::is_mappable;
 
@@ -66,31 +67,30 @@ impl Mapping {
         alloc: Global,
         cells: &mut AddressSpace,
         tables: &mut Tables,
-        frames: &mut Owners,
-        slots: &mut Owners,
+        counts: &mut Counts,
         first: u64,
     ) -> Result<(), AllocError>
         requires some { 0 < self.now.len }
         requires fits { first + pages_of self.now.len < 2 ^ 36 }
         requires index { index_of self.now.backing + pages_of self.now.len < 2 ^ 64 }
-        requires frames { IsCounted frame_of frames.old cells.old }
-        requires slots { IsCounted slot_of slots.old cells.old }
+        requires counted { AreCounted counts.old cells.old }
         ensures cells { OnOk result (cells.new ≡ filled self.now first cells.old) }
         ensures tables { OnOk result (tables.new ≡ tables_with self.now first tables.old) }
-        ensures frames { OnOk result (Follows None frame_of frames.old frames.new cells.old cells.new) }
-        ensures slots { OnOk result (Follows None slot_of slots.old slots.new cells.old cells.new) }
-        ensures kept { OnErr result (Keeps cells.old cells.new frames.old frames.new slots.old slots.new) }
+        ensures counts { OnOk result (Follow counts.old counts.new cells.old cells.new) }
+        ensures kept { OnErr result (Keeps cells.old cells.new counts.old counts.new) }
         ensures tables_stay { OnErr result (tables.new ≡ tables.old) }
     {
         let count = pages(self.len);
-        let new = NewPages {
+        let run = Run {
             first,
             count,
-            perm: self.perm,
-            backing: self.backing,
+            mark: Mark {
+                perm: self.perm,
+                backing: self.backing,
+            },
         };
         let added = tables.add_above(alloc, self.space.number(), first, count)?;
-        match cells.replace(alloc, new, frames, slots) {
+        match map_pages(alloc, cells, counts, run) {
             Ok(()) => Ok(()),
             Err(wanting) => {
                 tables.remove_all(&added);
@@ -144,14 +144,7 @@ impl Plain {
         ensures err { OnErr result (self.new ≡ self.old) }
     {
         let cells = self.spaces.get_mut(mapping.space.number()).unwrap();
-        mapping.put_in(
-            alloc,
-            cells,
-            &mut self.tables,
-            &mut self.frames,
-            &mut self.slots,
-            first,
-        )
+        mapping.put_in(alloc, cells, &mut self.tables, &mut self.counts, first)
     }
 
     /// The first page of a mapping, or the reply that refuses it.

@@ -8,8 +8,9 @@ ghost use Rattle.page_map.specs.State.{IsWithinLimits, start, linked, accounts};
 
 use corten_base::{Accounts, Limits, SpaceId, Status};
 use file_shelf::Shelf;
-use plain_counts::{Fronts, Owners, Tables};
-use plain_spaces::{AddressSpace, Spaces};
+use plain_counts::{Counts, Fronts, Tables};
+use plain_spaces::Spaces;
+use space_cells::AddressSpace;
 use std::alloc::{AllocError, Global};
 use std::marker::Model;
 use table_place::Place;
@@ -25,10 +26,8 @@ pub struct Plain {
     pub(crate) limits: Limits,
     // The files, by number.
     pub(crate) shelf: Shelf,
-    // How many keys carry each frame, and which frames none carries.
-    pub(crate) frames: Owners,
-    // The same of swap slots.
-    pub(crate) slots: Owners,
+    // How many keys carry each frame and each swap slot, and which of them none carries.
+    pub(crate) counts: Counts,
     // How many pages from the beginning of each arena are known to be full, so that no search for a gap goes over them.
     pub(crate) fronts: Fronts,
 }
@@ -44,7 +43,7 @@ impl Model for Plain {
 
     ghost view = { λ a. record { spaces = a.spaces; tables = a.tables; limits = a.limits; files = a.shelf } };
 
-    ghost invariant = { λ a. IsSound (record { spaces = a.spaces; tables = a.tables; limits = a.limits; files = a.shelf }) a.frames a.slots a.fronts };
+    ghost invariant = { λ a. IsSound (record { spaces = a.spaces; tables = a.tables; limits = a.limits; files = a.shelf }) a.counts.frames a.counts.slots a.fronts };
 }
 
 /// Space 0, with no cell.
@@ -83,8 +82,7 @@ impl Plain {
             tables,
             limits,
             shelf,
-            frames: Owners::new(alloc, limits.frames)?,
-            slots: Owners::new(alloc, limits.swap)?,
+            counts: Counts::new(alloc, limits.frames, limits.swap)?,
             fronts: Fronts::new(alloc)?,
         })
     }
@@ -102,8 +100,8 @@ impl Plain {
         requires { linked self.now + limbo ≤ self.now.limits.tables }
         ensures { result ≡ accounts self.now limbo }
     {
-        let frames_free = self.frames.free();
-        let swap_free = self.slots.free();
+        let frames_free = self.counts.frames.free();
+        let swap_free = self.counts.slots.free();
         Accounts {
             frames: self.limits.frames,
             frames_free,

@@ -2,19 +2,19 @@
 ghost use Rattle.std.specs.Prelude.{◌≡◌, ℕ, ◌+◌, ◌≤◌, None, IfOk, OnOk, OnErr};
 ghost use Rattle.std.specs.FinMap as map;
 ghost use Rattle.corten_base.specs.declared.calls.Call.TheVariants as call;
-ghost use Rattle.page_map.specs.Cell.{frame_of, slot_of};
 ghost use Rattle.page_map.specs.State.{linked};
 ghost use Rattle.page_map.specs.Step.{step};
-ghost use Rattle.plain_spaces.specs.Copies.{AreLow, IsRoomy, JoinsAll, new_tables};
-ghost use Rattle.plain_spaces.specs.Reach.{IsCounted};
+ghost use Rattle.plain_counts.specs.Counts.{AreCounted};
+ghost use Rattle.plain_spaces.specs.Copies.{AreLow, AreRoomy, JoinAll, new_tables};
 ghost use Rattle.mm_model.specs.NewSpaces.{MayMake, made};
 ghost use Rattle.mm_model.specs.Placing.{tables_lack};
 
 use crate::lacking::lack;
 use crate::plain::Plain;
 use corten_base::{Reply, SpaceId};
-use plain_counts::{Owners, Tables};
-use plain_spaces::{AddressSpace, Spaces};
+use plain_counts::{Counts, Tables};
+use plain_spaces::{Spaces, add_tables, leave, share};
+use space_cells::AddressSpace;
 use std::alloc::{AllocError, Global};
 
 /// How many pages stand before the end of the user pages.
@@ -23,26 +23,21 @@ const ALL_PAGES: u64 = 1 << 35;
 /// Puts in a space, whose pages are further keys of the numbers that they carry.
 fn put_in(
     spaces: &mut Spaces,
-    frames: &mut Owners,
-    slots: &mut Owners,
+    counts: &mut Counts,
     new: u8,
     cells: AddressSpace,
 ) -> Result<(), AllocError>
     requires low { AreLow cells }
-    requires frames { IsCounted frame_of frames.old cells }
-    requires slots { IsCounted slot_of slots.old cells }
-    requires room_for_frames { IsRoomy frame_of frames.old cells }
-    requires room_for_slots { IsRoomy slot_of slots.old cells }
+    requires counted { AreCounted counts.old cells }
+    requires room { AreRoomy counts.old cells }
     ensures spaces { OnOk result (spaces.new ≡ map.insert spaces.old new cells) }
-    ensures frames { OnOk result (JoinsAll frame_of frames.old frames.new cells) }
-    ensures slots { OnOk result (JoinsAll slot_of slots.old slots.new cells) }
+    ensures counts { OnOk result (JoinAll counts.old counts.new cells) }
     ensures spaces_stay { OnErr result (spaces.new ≡ spaces.old) }
-    ensures frames_stay { OnErr result (frames.new ≡ frames.old) }
-    ensures slots_stay { OnErr result (slots.new ≡ slots.old) }
+    ensures counts_stay { OnErr result (counts.new ≡ counts.old) }
 {
     spaces.insert(new, cells)?;
     let cells = spaces.get(new).unwrap();
-    cells.share(frames, slots);
+    share(cells, counts);
     Ok(())
 }
 
@@ -61,7 +56,7 @@ impl Plain {
         ensures { IfOk result (λ lack. lack ≡ tables_lack self.now (new_tables new cells.now) limbo) }
     {
         let mut wanted = Tables::new(alloc);
-        cells.add_tables(alloc, &mut wanted, new)?;
+        add_tables(alloc, cells, &mut wanted, new)?;
         let need = wanted.len() as u64;
         let linked = self.tables.len() as u32;
         Ok(lack(self.limits.tables, linked, limbo, need))
@@ -81,19 +76,13 @@ impl Plain {
         ensures err { OnErr result (self.new ≡ self.old) }
     {
         let linked = self.tables.len() as u32;
-        cells.add_tables(alloc, &mut self.tables, new)?;
+        add_tables(alloc, &cells, &mut self.tables, new)?;
         let need = self.tables.len() as u64 - u64::from(linked);
         if let Some(refused) = lack(self.limits.tables, linked, limbo, need) {
             self.tables.remove_space(new);
             return Ok(refused);
         }
-        match put_in(
-            &mut self.spaces,
-            &mut self.frames,
-            &mut self.slots,
-            new,
-            cells,
-        ) {
+        match put_in(&mut self.spaces, &mut self.counts, new, cells) {
             Ok(()) => Ok(Reply::Space(new)),
             Err(wanting) => {
                 self.tables.remove_space(new);
@@ -115,7 +104,7 @@ impl Plain {
         self.make(alloc, new, AddressSpace::new(alloc), limbo)
     }
 
-    /// Makes the least absent space, as a copy of another, in the time of the pages that are there.
+    /// Makes the least absent space, as a copy of another, in the time of the runs and of the frames and slots that are there.
     pub(crate) fn fork(
         &mut self,
         alloc: Global,
@@ -140,16 +129,16 @@ impl Plain {
         self.make(alloc, new, cells, limbo)
     }
 
-    /// Removes a space with its page tables, in the time of the pages that are there and of the tables.
+    /// Removes a space with its page tables, in the time of the runs and of the frames and slots that are there, and of the tables.
     pub(crate) fn exit(&mut self, space: SpaceId) -> Reply
         ensures { (thread limbo : ℕ) → linked self.old + limbo ≤ self.old.limits.tables
             → (result, self.new) ≡ step self.old thread (call.Exit space) limbo }
     {
         let number = space.number();
-        let Some(mut cells) = self.spaces.remove(number) else {
+        let Some(cells) = self.spaces.remove(number) else {
             return Reply::NoSpace;
         };
-        cells.release(0, ALL_PAGES, &mut self.frames, &mut self.slots);
+        leave(&cells, &mut self.counts);
         self.tables.remove_space(number);
         self.fronts.forget(number, 0, ALL_PAGES);
         Reply::Ok

@@ -8,6 +8,7 @@ ghost use Rattle.mm_model.specs.Served.{IsServed};
 use crate::mapping::Mapping;
 use crate::plain::Plain;
 use corten_base::{Call, MapPlace, Reply};
+use plain_spaces::Move;
 use std::alloc::{AllocError, Global};
 use thiserror::Error;
 
@@ -86,21 +87,21 @@ impl Plain {
                 };
                 self.map(alloc, thread, &mapping, *place, limbo)
             }
-            Call::Unmap { space, at, len } => Ok(self.unmap(*space, *at, *len)),
+            Call::Unmap { space, at, len } => self.unmap(alloc, *space, *at, *len),
             Call::Protect {
                 space,
                 at,
                 len,
                 perm,
-            } => Ok(self.protect(*space, *at, *len, *perm)),
+            } => self.protect(*space, *at, *len, *perm),
             Call::Load { space, at, len } => self.load(alloc, *space, *at, *len),
             Call::Store { space, at, bytes } => self.store(alloc, *space, *at, bytes),
             Call::Fault { space, at, write } => self.fault(alloc, *space, *at, *write),
             Call::Spawn => self.spawn(alloc, limbo),
             Call::Fork { space } => self.fork(alloc, *space, limbo),
             Call::Exit { space } => Ok(self.exit(*space)),
-            Call::SwapOut { space, at, len } => Ok(self.swap_out(*space, *at, *len)),
-            Call::SwapIn { space, at, len } => Ok(self.swap_in(*space, *at, *len)),
+            Call::SwapOut { space, at, len } => Ok(self.swap(Move::Out, *space, *at, *len)),
+            Call::SwapIn { space, at, len } => Ok(self.swap(Move::In, *space, *at, *len)),
             Call::Txn {
                 space,
                 at,

@@ -64,15 +64,7 @@ impl Plain {
         let list = ops.ops();
         let cells = self.spaces.get_mut(number).unwrap();
         let tables = &mut self.tables;
-        commit(
-            alloc,
-            cells,
-            tables,
-            &mut self.frames,
-            &mut self.slots,
-            number,
-            list,
-        )?;
+        commit(alloc, cells, tables, &mut self.counts, number, list)?;
         forget_unmapped(&mut self.fronts, number, list);
         Ok(())
     }

@@ -1,3 +1,4 @@
 pub mod Owners
+pub mod Counts
 pub mod Levels
 pub mod Fronts

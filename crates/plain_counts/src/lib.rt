@@ -2,10 +2,12 @@
 //! frame and each swap slot, and how far the arenas are full.
 #![tactic(auto)]
 
+mod counts;
 mod fronts;
 mod owners;
 mod tables;
 
+pub use counts::Counts;
 pub use fronts::{ARENA_PAGES, Fronts};
 pub use owners::Owners;
 pub use tables::{Tables, prefixes};

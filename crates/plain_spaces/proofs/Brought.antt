@@ -1,56 +1,87 @@
 -- The cells after the pages of an access got their frames.
-use Rattle.std.proofs.Common.{◌≡◌, ℕ, ◌+◌, ◌<◌, ◌≤◌, Bool, true, false, cond, ◌||◌, List, [], ◌∷◌, ◌++◌, length, refl, sym, ap, subst, ◌∙◌, arith}
+use Rattle.std.proofs.Common.{◌≡◌, ℕ, ◌+◌, ◌<◌, ◌≤◌, Bool, true, false, cond, not, ◌&&◌, ◌||◌, List, [], ◌∷◌, ◌++◌, length, refl, sym, ap, subst, ◌∙◌, arith}
 use mathlib.Core.Logic.{◌⊎◌, inl, inr}
 use Rattle.std.specs.Prelude.{Option, Some, None, IsSome, IfSome, IfNone, is_some, nat_eq}
 use Rattle.std.specs.Option.{option_map}
 use Rattle.std.specs.List.{zip}
 use Rattle.std.specs.Cmp.{unsigned_tied, nat_eq_equiv}
 use Rattle.std.proofs.lemmas.Bool.{cases_eq, eq-eqb, ne_eqb, cond-true, cond-false, false≢true}
+use Rattle.std.specs.FinMap as fin
 use Rattle.std.specs.FinMap.{get}
 use Rattle.table_place.specs.Range.{within}
 use Rattle.page_map.specs.declared.cell.Cell.{Cell}
 use Rattle.page_map.specs.declared.cell.Cell.TheVariants.{Anon, File, Mapped, Swapped}
-use Rattle.page_map.specs.Change.{change}
+use Rattle.page_map.specs.Cell.{perm_of, contents}
+use Rattle.page_map.specs.Change.{change, set_at}
 use Rattle.page_map.specs.State.{AddressSpace}
 use Rattle.page_map.specs.Takes.{Grant, grant, granted}
 use Rattle.page_map.specs.Access.{Access, first_page, page_count}
 use Rattle.page_map.proofs.Range.{inside, outside, get-change, change_is}
 use Rattle.page_map.proofs.Owners.{same_some}
-use Rattle.plain_spaces.specs.Reach.{last_page, beyond, given, brought}
-use Rattle.plain_spaces.specs.Wants.{want_of, is_wanting, Suits}
+use Rattle.space_cells.specs.declared.held.Number.TheVariants.{Frame}
+use Rattle.space_cells.specs.Cells.{with_held}
+use Rattle.plain_spaces.specs.Reach.{last_page, beyond, given, brought, wanting}
+use Rattle.plain_spaces.specs.Wants.{moving, want_of, in_frame, laid}
 use Rattle.plain_spaces.specs.declared.plan.Want.{Want}
-use Rattle.plain_spaces.specs.declared.plan.Want.TheVariants.{Nothing, Frame}
+use Rattle.plain_spaces.proofs.Moves.{change_one, put_back}
+use Rattle.plain_spaces.proofs.Plans.{wanting_is}
 use Rattle.plain_spaces.proofs.Reach.{one_or_two}
 
--- what a page wants suits it
-want_suits : (files : List (List ℕ)) (owners : ℕ → ℕ) (write : Bool) (cell : Cell) → Suits cell (want_of owners write cell)
-want_suits files owners write (Mapped perm frame bytes) = go _
+-- a page that wants nothing is on its frame, and another gets the bytes that it has
+abbrev pub Fits : List (List ℕ) → Option Want → Cell → Type 0
+Fits files None cell = given files None cell ≡ cell
+Fits files (Some want) cell = want.body ≡ contents files cell
+
+fits : (files : List (List ℕ)) (owners : ℕ → ℕ) (write : Bool) (cell : Cell) → Fits files (want_of files owners write cell) cell
+fits files owners write (Mapped perm frame bytes) = go (write && not (nat_eq (owners frame) 1))
   where
-    go : (b : Bool) → Suits (Mapped perm frame bytes) (cond b Frame Nothing)
-    go true = tt
-    go false = tt
-want_suits files owners write (Anon perm) = refl
-want_suits files owners write (File perm file index) = refl
-want_suits files owners write (Swapped perm slot bytes) = tt
+    go : (b : Bool) → Fits files (cond b (Some (moving files (Mapped perm frame bytes))) None) (Mapped perm frame bytes)
+    go true = refl
+    go false = refl
+fits files owners write (Anon perm) = refl
+fits files owners write (File perm file index) = refl
+fits files owners write (Swapped perm slot bytes) = refl
 
 module _ (files : List (List ℕ)) (owners : ℕ → ℕ) (write : Bool) where
-  pub wanted_there : (o : Option Cell) (want : Want) → option_map (want_of owners write) o ≡ Some want → IsSome o
+  pub wanted_there : (o : Option Cell) (want : Option Want) → option_map (want_of files owners write) o ≡ Some want → IsSome o
   wanted_there None want e = absurd (none e)
     where
-      none : ◌≡◌ {A = Option Want} None (Some want) → ⊥
+      none : ◌≡◌ {A = Option (Option Want)} None (Some want) → ⊥
       none h = cc
   wanted_there (Some cell) want e = refl
 
-  pub wanted_suits : (o : Option Cell) (want : Want) → option_map (want_of owners write) o ≡ Some want → IfSome o (λ cell. Suits cell want)
-  wanted_suits None want e = tt
-  wanted_suits (Some cell) want e = subst (Suits cell) (same_some e) (want_suits files owners write cell)
+  pub wanted_fits : (o : Option Cell) (want : Option Want) → option_map (want_of files owners write) o ≡ Some want → IfSome o (Fits files want)
+  wanted_fits None want e = tt
+  wanted_fits (Some cell) want e = subst (λ w. Fits files w cell) (same_some e) (fits files owners write cell)
+
+-- a page that wants nothing stays, and another is laid on its frame
+pub laid_is : (files : List (List ℕ)) (cells : AddressSpace) (page : ℕ) (frame : Option ℕ) (want : Option Want) → IsSome (get cells page) → IfSome (get cells page) (Fits files want) → is_some frame ≡ is_some want →
+    laid (in_frame page frame want) cells ≡ change cells page 1 (λ _. option_map (given files frame))
+laid_is files cells page frame want there fits taken = go (get cells page) refl there fits
+  where
+    at : (cell : Cell) → get cells page ≡ Some cell → (f : Cell → Cell) → change cells page 1 (λ _. option_map f) ≡ fin.insert cells page (f cell)
+    at cell here f = change_one cells page (λ _. option_map f) ∙ ap (λ o. set_at cells page (option_map f o)) here
+
+    each : (cell : Cell) → get cells page ≡ Some cell → (frame : Option ℕ) (want : Option Want) → Fits files want cell → is_some frame ≡ is_some want →
+        laid (in_frame page frame want) cells ≡ change cells page 1 (λ _. option_map (given files frame))
+    each cell here None None fits e = sym (at cell here (given files None) ∙ ap (fin.insert cells page) fits ∙ put_back cells page cell here)
+    each cell here (Some n) (Some w) fits e =
+        at cell here (with_held (record { number = Frame n; bytes = w.body }))
+        ∙ ap (λ b. fin.insert cells page (Mapped (perm_of cell) n b)) fits
+        ∙ sym (at cell here (given files (Some n)))
+    each cell here None (Some w) fits e = absurd (false≢true e)
+    each cell here (Some n) None fits e = absurd (false≢true (sym e))
+
+    go : (o : Option Cell) → get cells page ≡ o → IsSome o → IfSome o (Fits files want) → laid (in_frame page frame want) cells ≡ change cells page 1 (λ _. option_map (given files frame))
+    go None here there fits = absurd (false≢true there)
+    go (Some cell) here there fits = each cell here frame want fits taken
 
 -- the last page has a cell, where it is not the first
-pub last_there : (files : List (List ℕ)) (cells : AddressSpace) (owners : ℕ → ℕ) (a : Access) (far : Want) → beyond a (Some Nothing) (option_map (want_of owners a.write) (get cells (last_page a))) ≡ Some far →
+pub last_there : (files : List (List ℕ)) (cells : AddressSpace) (owners : ℕ → ℕ) (a : Access) (far : Option Want) → beyond a (Some None) (option_map (want_of files owners a.write) (get cells (last_page a))) ≡ Some far →
     (last_page a ≡ first_page a → ⊥) → IsSome (get cells (last_page a))
 last_there files cells owners a far e f =
     wanted_there files owners a.write (get cells (last_page a)) far
-    (sym (cond-false _ (Some Nothing) (option_map (want_of owners a.write) (get cells (last_page a))) (ne_eqb (last_page a) (first_page a) f)) ∙ e)
+    (sym (cond-false _ (Some None) (option_map (want_of files owners a.write) (get cells (last_page a))) (ne_eqb (last_page a) (first_page a) f)) ∙ e)
 
 pub within_one : (k q : ℕ) → within k 1 q ≡ nat_eq q k
 within_one k q = go (within k 1 q) refl
@@ -74,25 +105,25 @@ twice : (files : List (List ℕ)) (frame : Option ℕ) (o : Option Cell) → opt
 twice files frame None = refl
 twice files frame (Some cell) = refl
 
-module _ (files : List (List ℕ)) (cells : AddressSpace) (owners : ℕ → ℕ) (a : Access) (some : 0 < a.len) (few : a.len ≤ 4096) (near far : Want) (first last : Option ℕ)
-    (far_is : beyond a (Some Nothing) (option_map (want_of owners a.write) (get cells (last_page a))) ≡ Some far) where
+module _ (files : List (List ℕ)) (cells : AddressSpace) (owners : ℕ → ℕ) (a : Access) (some : 0 < a.len) (few : a.len ≤ 4096) (near far : Option Want) (first last : Option ℕ)
+    (far_is : beyond a (Some None) (option_map (want_of files owners a.write) (get cells (last_page a))) ≡ Some far) where
   abbrev settled : AddressSpace
   settled = change cells (first_page a) 1 (λ _. option_map (given files first))
 
   settled_at : (q : ℕ) → get settled q ≡ cond (nat_eq q (first_page a)) (option_map (given files first) (get cells q)) (get cells q)
   settled_at q = get-change cells (first_page a) 1 (λ _. option_map (given files first)) q ∙ ap (λ b. cond b (option_map (given files first) (get cells q)) (get cells q)) (within_one (first_page a) q)
 
-  settled_same : last_page a ≡ first_page a → get settled (last_page a) ≡ option_map (given files first) (get cells (first_page a))
+  pub settled_same : last_page a ≡ first_page a → get settled (last_page a) ≡ option_map (given files first) (get cells (first_page a))
   settled_same e = settled_at (last_page a) ∙ cond-true _ _ _ (eq-eqb (last_page a) (first_page a) e) ∙ ap (λ q. option_map (given files first) (get cells q)) e
 
-  settled_next : (last_page a ≡ first_page a → ⊥) → get settled (last_page a) ≡ get cells (last_page a)
+  pub settled_next : (last_page a ≡ first_page a → ⊥) → get settled (last_page a) ≡ get cells (last_page a)
   settled_next f = settled_at (last_page a) ∙ cond-false _ _ _ (ne_eqb (last_page a) (first_page a) f)
 
-  pub far_nothing : last_page a ≡ first_page a → far ≡ Nothing
-  far_nothing e = sym (same_some (sym (cond-true _ (Some Nothing) (option_map (want_of owners a.write) (get cells (last_page a))) (eq-eqb (last_page a) (first_page a) e)) ∙ far_is))
+  pub far_nothing : last_page a ≡ first_page a → far ≡ None
+  far_nothing e = sym (same_some (sym (cond-true _ (Some None) (option_map (want_of files owners a.write) (get cells (last_page a))) (eq-eqb (last_page a) (first_page a) e)) ∙ far_is))
 
-  far_wanted : (last_page a ≡ first_page a → ⊥) → option_map (want_of owners a.write) (get cells (last_page a)) ≡ Some far
-  far_wanted f = sym (cond-false _ (Some Nothing) (option_map (want_of owners a.write) (get cells (last_page a))) (ne_eqb (last_page a) (first_page a) f)) ∙ far_is
+  pub far_wanted : (last_page a ≡ first_page a → ⊥) → option_map (want_of files owners a.write) (get cells (last_page a)) ≡ Some far
+  far_wanted f = sym (cond-false _ (Some None) (option_map (want_of files owners a.write) (get cells (last_page a))) (ne_eqb (last_page a) (first_page a) f)) ∙ far_is
 
   -- what the last page is once the first has moved
   pub far_there : IsSome (get cells (first_page a)) → IsSome (get settled (last_page a))
@@ -106,19 +137,19 @@ module _ (files : List (List ℕ)) (cells : AddressSpace) (owners : ℕ → ℕ)
       go (inl e) = subst (λ o. IsSome o) (sym (settled_same e)) (moved (get cells (first_page a)) there)
       go (inr f) = subst (λ o. IsSome o) (sym (settled_next f)) (wanted_there files owners a.write (get cells (last_page a)) far (far_wanted f))
 
-  pub far_suits : IfSome (get settled (last_page a)) (λ cell. Suits cell far)
-  far_suits = go (cases_eq (last_page a) (first_page a))
+  pub far_fits : IfSome (get settled (last_page a)) (Fits files far)
+  far_fits = go (cases_eq (last_page a) (first_page a))
     where
-      moved : (o : Option Cell) → IfSome (option_map (given files first) o) (λ cell. Suits cell Nothing)
+      moved : (o : Option Cell) → IfSome (option_map (given files first) o) (Fits files None)
       moved None = tt
-      moved (Some cell) = tt
+      moved (Some cell) = refl
 
-      go : (last_page a ≡ first_page a) ⊎ (last_page a ≡ first_page a → ⊥) → IfSome (get settled (last_page a)) (λ cell. Suits cell far)
-      go (inl e) = subst (λ o. IfSome o (λ cell. Suits cell far)) (sym (settled_same e)) (subst (λ w. IfSome (option_map (given files first) (get cells (first_page a))) (λ cell. Suits cell w)) (sym (far_nothing e)) (moved (get cells (first_page a))))
-      go (inr f) = subst (λ o. IfSome o (λ cell. Suits cell far)) (sym (settled_next f)) (wanted_suits files owners a.write (get cells (last_page a)) far (far_wanted f))
+      go : (last_page a ≡ first_page a) ⊎ (last_page a ≡ first_page a → ⊥) → IfSome (get settled (last_page a)) (Fits files far)
+      go (inl e) = subst (λ o. IfSome o (Fits files far)) (sym (settled_same e)) (subst (λ w. IfSome (option_map (given files first) (get cells (first_page a))) (Fits files w)) (sym (far_nothing e)) (moved (get cells (first_page a))))
+      go (inr f) = subst (λ o. IfSome o (Fits files far)) (sym (settled_next f)) (wanted_fits files owners a.write (get cells (last_page a)) far (far_wanted f))
 
   -- both pages have moved to the frames that were granted
-  pub both_settled : (grants : Grant) → granted grants (first_page a) ≡ first → ((last_page a ≡ first_page a → ⊥) → granted grants (last_page a) ≡ last) → is_some last ≡ is_wanting far →
+  pub both_settled : (grants : Grant) → granted grants (first_page a) ≡ first → ((last_page a ≡ first_page a → ⊥) → granted grants (last_page a) ≡ last) → is_some last ≡ is_some far →
       change settled (last_page a) 1 (λ _. option_map (given files last)) ≡ brought files grants a cells
   both_settled grants g h w = change_is cells (first_page a) (page_count a) (λ page. option_map (given files (granted grants page))) _ (λ q. at q (one_or_two a some few))
     where
@@ -126,7 +157,7 @@ module _ (files : List (List ℕ)) (cells : AddressSpace) (owners : ℕ → ℕ)
       new q = option_map (given files (granted grants q)) (get cells q)
 
       last_none : last_page a ≡ first_page a → last ≡ None
-      last_none e = none last (w ∙ ap is_wanting (far_nothing e))
+      last_none e = none last (w ∙ ap is_some (far_nothing e))
         where
           none : (o : Option ℕ) → is_some o ≡ false → o ≡ None
           none None h = refl
@@ -220,7 +251,51 @@ enough_far false true None u v s taken kept enough e = omega (arith, ap length k
 enough_far true true None u v s taken kept enough e = absurd (false≢true s)
 enough_far false true (Some n) u v s taken kept enough e = absurd (false≢true (sym s))
 
--- a list without the first of another is not longer
+-- where no number was taken, what is made of the counts stays
 pub none_taken : {A : Type 0} (o : Option ℕ) (f : A → List ℕ) (x y : A) → IfNone o (x ≡ y) → IfNone o (f x ≡ f y)
 none_taken None f x y e = ap f e
 none_taken (Some n) f x y e = tt
+
+-- ---- both pages
+
+-- a page that is laid has a cell
+pub laid_there : (cells : AddressSpace) (page : ℕ) (frame : Option ℕ) (want : Option Want) → IsSome (get cells page) → IfSome (in_frame page frame want) (λ e. IsSome (get cells e.0))
+laid_there cells page (Some n) (Some w) there = there
+laid_there cells page (Some n) None there = tt
+laid_there cells page None (Some w) there = tt
+laid_there cells page None None there = tt
+
+module _ (files : List (List ℕ)) (cells : AddressSpace) (owners : ℕ → ℕ) (a : Access) (some : 0 < a.len) (few : a.len ≤ 4096) (near far : Option Want) (first last : Option ℕ)
+    (near_is : option_map (want_of files owners a.write) (get cells (first_page a)) ≡ Some near)
+    (far_is : beyond a (Some None) (option_map (want_of files owners a.write) (get cells (last_page a))) ≡ Some far)
+    (near_takes : is_some first ≡ is_some near) (far_takes : is_some last ≡ is_some far) where
+  pub near_there : IsSome (get cells (first_page a))
+  near_there = wanted_there files owners a.write (get cells (first_page a)) near near_is
+
+  pub last_is_there : IsSome (get cells (last_page a))
+  last_is_there = go (cases_eq (last_page a) (first_page a))
+    where
+      go : (last_page a ≡ first_page a) ⊎ (last_page a ≡ first_page a → ⊥) → IsSome (get cells (last_page a))
+      go (inl e) = subst (λ q. IsSome (get cells q)) (sym e) near_there
+      go (inr f) = last_there files cells owners a far far_is f
+
+  -- laid one after the other
+  pub both_laid : laid (in_frame (last_page a) last far) (laid (in_frame (first_page a) first near) cells)
+      ≡ change (change cells (first_page a) 1 (λ _. option_map (given files first))) (last_page a) 1 (λ _. option_map (given files last))
+  both_laid =
+      ap (laid (in_frame (last_page a) last far)) (laid_is files cells (first_page a) first near near_there (wanted_fits files owners a.write (get cells (first_page a)) near near_is) near_takes)
+      ∙ laid_is files (change cells (first_page a) 1 (λ _. option_map (given files first))) (last_page a) last far
+      (far_there files cells owners a some few near far first last far_is near_there) (far_fits files cells owners a some few near far first last far_is) far_takes
+
+  -- the pages have the frames that they are granted
+  pub all_brought : (u v w : List ℕ) → IfSome first (λ n. u ≡ n ∷ v) → IfNone first (v ≡ u) → IfSome last (λ n. v ≡ n ∷ w) →
+      laid (in_frame (last_page a) last far) (laid (in_frame (first_page a) first near) cells) ≡ brought files (grant (wanting owners cells a) u) a cells
+  all_brought u v w taken kept then =
+      let pages = wanting_is files cells owners a some few near far near_is far_is in
+      both_laid
+      ∙ both_settled files cells owners a some few near far first last far_is (grant (wanting owners cells a) u)
+      (ap (λ l. granted (grant l u) (first_page a)) pages
+      ∙ granted_first (first_page a) (last_page a) (is_some near) (is_some far) first last u v w near_takes far_takes (λ e. ap is_some (far_nothing files cells owners a some few near far first last far_is e)) taken kept then)
+      (λ f. ap (λ l. granted (grant l u) (last_page a)) pages
+      ∙ granted_last (first_page a) (last_page a) (is_some near) (is_some far) first last u v w near_takes far_takes f taken kept then)
+      far_takes

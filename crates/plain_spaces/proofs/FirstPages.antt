@@ -18,14 +18,6 @@ module _ {X : Type 0} (m : FinMap nat_cmp X) where
       go q false e = refl
       go q true e = same q (inside first count q e).0 (inside first count q e).1
 
-  -- a change that leaves each page of the range as it is
-  pub change_quiet : (f : ℕ → Option X → Option X) (first count : ℕ) → ((q : ℕ) → first ≤ q → q < first + count → f q (get m q) ≡ get m q) → m ≡ change m first count f
-  change_quiet f first count quiet = change_is m first count f m (λ q. go q (within first count q) refl)
-    where
-      go : (q : ℕ) (b : Bool) → within first count q ≡ b → get m q ≡ cond b (f q (get m q)) (get m q)
-      go q false e = refl
-      go q true e = sym (quiet q (inside first count q e).0 (inside first count q e).1)
-
   module _ (f : ℕ → Option X → Option X) (next page end : ℕ) (low : next ≤ page) where
     -- the pages before one stay as they are
     pub change_skip : page ≤ end → ((q : ℕ) → next ≤ q → q < page → f q (get m q) ≡ get m q) → change m next (end - next) f ≡ change m page (end - page) f

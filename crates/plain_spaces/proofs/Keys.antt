@@ -1,8 +1,6 @@
 -- The keys of a range from the front, page by page.
-use Rattle.std.proofs.Common.{◌≡◌, ℕ, zero, suc, ◌+◌, ◌-◌, ◌<◌, ◌≤◌, Bool, true, false, cond, List, [], ◌∷◌, ◌++◌, length, append_assoc, refl, sym, ap, ◌∙◌, arith}
-use mathlib.Core.Bool.{true≢false}
-use Rattle.std.specs.Prelude.{Option, Some, None, IsSome, is_some}
-use Rattle.std.specs.Option.{option_map_or}
+use Rattle.std.proofs.Common.{◌≡◌, ℕ, zero, suc, ◌+◌, ◌-◌, ◌<◌, ◌≤◌, Bool, true, false, cond, List, [], ◌∷◌, ◌++◌, length, append_assoc, refl, sym, ap, subst, ◌∙◌, arith}
+use Rattle.std.specs.Prelude.{Option, Some, None, IsSome, IfSome, is_some}
 use Rattle.std.specs.Ordering.{nat_cmp}
 use Rattle.std.specs.Cmp.{unsigned_tied}
 use Rattle.std.specs.List.{zip}
@@ -36,21 +34,25 @@ module _ {X : Type 0} (p : X → Bool) (m : FinMap nat_cmp X) where
       next : (a b : ℕ) → a + suc b ≡ a + 1 + b
       next a b = omega arith
 
-  -- no key of the first k
-  keys_skip : (low k n : ℕ) → ((q : ℕ) → low ≤ q → q < low + k → get m q ≡ None) → keys_in m low (k + n) p ≡ keys_in m (low + k) n p
+  none_chosen : (q : ℕ) (o : Option X) → IfSome o (λ x. p x ≡ false) → chosen p q o ≡ []
   unfolding chosen
-  keys_skip low zero n none = (λ i. keys_in m (sym (same low) i) (nothing n i) p)
+  none_chosen q None quiet = refl
+  none_chosen q (Some x) quiet = ap (λ b. cond b (q ∷ []) []) quiet
+
+  -- no key of the first k
+  keys_skip : (low k n : ℕ) → ((q : ℕ) → low ≤ q → q < low + k → IfSome (get m q) (λ x. p x ≡ false)) → keys_in m low (k + n) p ≡ keys_in m (low + k) n p
+  keys_skip low zero n quiet = (λ i. keys_in m (sym (same low) i) (nothing n i) p)
     where
       same : (a : ℕ) → a + 0 ≡ a
       same a = omega arith
 
       nothing : (a : ℕ) → 0 + a ≡ a
       nothing a = omega arith
-  keys_skip low (suc k) n none =
+  keys_skip low (suc k) n quiet =
       ap (λ j. keys_in m low j p) (one k n)
       ∙ keys_front low (k + n)
-      ∙ ap (λ o. chosen p low o ++ keys_in m (low + 1) (k + n) p) (none low (omega arith) (omega arith))
-      ∙ keys_skip (low + 1) k n (λ q a b. none q (omega (arith, a)) (omega (arith, b)))
+      ∙ ap (λ l. l ++ keys_in m (low + 1) (k + n) p) (none_chosen low (get m low) (quiet low (omega arith) (omega arith)))
+      ∙ keys_skip (low + 1) k n (λ q a b. quiet q (omega (arith, a)) (omega (arith, b)))
       ∙ ap (λ j. keys_in m j n p) (next low k)
     where
       one : (a b : ℕ) → suc a + b ≡ suc (a + b)
@@ -59,13 +61,17 @@ module _ {X : Type 0} (p : X → Bool) (m : FinMap nat_cmp X) where
       next : (a b : ℕ) → a + 1 + b ≡ a + suc b
       next a b = omega arith
 
-  -- up to the next page
-  pub keys_next : (next page end : ℕ) → next ≤ page → page ≤ end → ((q : ℕ) → next ≤ q → q < page → get m q ≡ None) → keys_in m next (end - next) p ≡ keys_in m page (end - page) p
-  keys_next next page end low high none =
+  -- up to a page before which none passes
+  pub keys_past : (next page end : ℕ) → next ≤ page → page ≤ end → ((q : ℕ) → next ≤ q → q < page → IfSome (get m q) (λ x. p x ≡ false)) → keys_in m next (end - next) p ≡ keys_in m page (end - page) p
+  keys_past next page end low high quiet =
       let gap : end - next ≡ (page - next) + (end - page) = omega arith in
       let at : next + (page - next) ≡ page = omega arith in
-      ap (λ j. keys_in m next j p) gap ∙ keys_skip next (page - next) (end - page) (λ q a b. none q a (omega (arith, b, at)))
+      ap (λ j. keys_in m next j p) gap ∙ keys_skip next (page - next) (end - page) (λ q a b. quiet q a (omega (arith, b, at)))
       ∙ ap (λ j. keys_in m j (end - page) p) at
+
+  -- up to the next page
+  pub keys_next : (next page end : ℕ) → next ≤ page → page ≤ end → ((q : ℕ) → next ≤ q → q < page → get m q ≡ None) → keys_in m next (end - next) p ≡ keys_in m page (end - page) p
+  keys_next next page end low high none = keys_past next page end low high (λ q a b. subst (λ o. IfSome o (λ x. p x ≡ false)) (sym (none q a b)) tt)
 
   -- a page that has a cell
   pub keys_here : (page end : ℕ) (x : X) → page < end → get m page ≡ Some x →
@@ -80,10 +86,13 @@ module _ {X : Type 0} (p : X → Bool) (m : FinMap nat_cmp X) where
       go false = refl
 
   -- no page is left
-  pub keys_none : (next end : ℕ) → next ≤ end → ((q : ℕ) → next ≤ q → q < end → get m q ≡ None) → keys_in m next (end - next) p ≡ []
-  keys_none next end low none =
+  pub keys_gone : (next end : ℕ) → next ≤ end → ((q : ℕ) → next ≤ q → q < end → IfSome (get m q) (λ x. p x ≡ false)) → keys_in m next (end - next) p ≡ []
+  keys_gone next end low quiet =
       let nothing : end - end ≡ 0 = omega arith in
-      keys_next next end end low (omega arith) none ∙ ap (λ j. keys_in m end j p) nothing ∙ no_keys p m end
+      keys_past next end end low (omega arith) quiet ∙ ap (λ j. keys_in m end j p) nothing ∙ no_keys p m end
+
+  pub keys_none : (next end : ℕ) → next ≤ end → ((q : ℕ) → next ≤ q → q < end → get m q ≡ None) → keys_in m next (end - next) p ≡ []
+  keys_none next end low none = keys_gone next end low (λ q a b. subst (λ o. IfSome o (λ x. p x ≡ false)) (sym (none q a b)) tt)
 
   -- a page before the range is none of its keys
   pub key_before : (low n q : ℕ) (numbers : List ℕ) → q < low → find nat_cmp q (zip (keys_in m low n p) numbers) ≡ None
@@ -138,33 +147,3 @@ is_next m next end page room e =
 
 pub no_next : {X : Type 0} (m : FinMap nat_cmp X) (next end : ℕ) → None ≡ least next (end - next) (λ q. is_some (get m q)) → (q : ℕ) → next ≤ q → q < end → get m q ≡ None
 no_next m next end e q a b = none_at_all m next (end - next) (sym e) q a (omega (arith, a, b))
-
--- how many pages pass, counted from the front
-module _ {X : Type 0} (p : X → Bool) (m : FinMap nat_cmp X) (next end page : ℕ) (at : IsNext m next end page) where
-  pub counted_next : length (keys_in m next (end - next) p) ≡ option_map_or (λ x. cond (p x) 1 0) (get m page) 0 + length (keys_in m (page + 1) (end - (page + 1)) p)
-  counted_next = ap length (keys_next p m next page end at.low (omega (arith, at.high)) at.before) ∙ go (get m page) refl at.there
-    where
-      each : (b : Bool) → length (cond b (page ∷ keys_in m (page + 1) (end - (page + 1)) p) (keys_in m (page + 1) (end - (page + 1)) p)) ≡ cond b 1 0 + length (keys_in m (page + 1) (end - (page + 1)) p)
-      each true = one (length (keys_in m (page + 1) (end - (page + 1)) p))
-        where
-          one : (n : ℕ) → suc n ≡ 1 + n
-          one n = omega arith
-      each false = none (length (keys_in m (page + 1) (end - (page + 1)) p))
-        where
-          none : (n : ℕ) → n ≡ 0 + n
-          none n = omega arith
-
-      go : (o : Option X) → get m page ≡ o → IsSome o → length (keys_in m page (end - page) p) ≡ option_map_or (λ x. cond (p x) 1 0) o 0 + length (keys_in m (page + 1) (end - (page + 1)) p)
-      go None e h = absurd (true≢false (sym h))
-      go (Some x) e h = ap length (keys_here p m page end x at.high e) ∙ each (p x)
-
-  pub at_most_one : option_map_or (λ x. cond (p x) 1 0) (get m page) 0 ≤ 1
-  at_most_one = go (get m page)
-    where
-      each : (b : Bool) → cond b 1 0 ≤ 1
-      each true = omega arith
-      each false = omega arith
-
-      go : (o : Option X) → option_map_or (λ x. cond (p x) 1 0) o 0 ≤ 1
-      go None = omega arith
-      go (Some x) = each (p x)

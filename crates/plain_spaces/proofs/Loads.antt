@@ -13,7 +13,8 @@ use Rattle.page_map.specs.declared.cell.Cell.TheVariants.{Anon, File, Mapped, Sw
 use Rattle.page_map.specs.Cell.{contents}
 use Rattle.page_map.specs.State.{AddressSpace}
 use Rattle.page_map.specs.Access.{Access, first_page, page_count, loaded}
-use Rattle.plain_spaces.specs.Reach.{last_page, bytes_of, IsResident}
+use Rattle.space_cells.specs.Cells.{bytes_of}
+use Rattle.plain_spaces.specs.Reach.{last_page, IsResident}
 use Rattle.plain_spaces.proofs.Reach.{one_or_two, here_first, here_last}
 
 -- a page with 4,096 bytes of its own has these as its contents

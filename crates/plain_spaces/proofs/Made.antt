@@ -20,7 +20,10 @@ use Rattle.page_map.specs.Takes.{Grant, granted}
 use Rattle.page_map.specs.Access.{Access, first_page, page_count, touched, after_access, loaded}
 use Rattle.page_map.proofs.Range.{inside, get-change, change_more, change_none}
 use Rattle.page_map.proofs.Bytes.{written_nothing}
-use Rattle.plain_spaces.specs.Reach.{last_page, storing, given, brought, stored_at, bytes_of, IsWhole, IsResident, carried, one_at, Follows}
+use Rattle.plain_counts.specs.declared.counts.Counts.{Counts}
+use Rattle.plain_counts.specs.Counts.{carried, one_at, Follows, Follow}
+use Rattle.space_cells.specs.Cells.{bytes_of}
+use Rattle.plain_spaces.specs.Reach.{last_page, making, given, brought, stored_at, IsWhole, IsResident}
 use Rattle.plain_spaces.proofs.Reach.{one_or_two}
 use Rattle.plain_spaces.proofs.Moves.{carried_insert}
 
@@ -123,18 +126,18 @@ overwritten_is at q bytes old low high whole = ap (λ l. take (at - 4096 * q) ol
     go (inr h) = drop_all (at - 4096 * q + length piece) old (omega (arith, long, h, low, high, whole)) ∙ sym (drop_all (at + length bytes - 4096 * q) old (omega (arith, h, low, high, whole)))
 
 -- an access that stores its bytes once its pages have frames
-pub stored_after : (files : List (List ℕ)) (cells : AddressSpace) (at : ℕ) (bytes : List ℕ) (grants : Grant) → 0 < length bytes → length bytes ≤ 4096 → IsWhole files cells →
-    change (brought files grants (storing at bytes) cells) (first_page (storing at bytes)) (page_count (storing at bytes)) (λ page. option_map (stored_at at bytes page)) ≡ after_access files grants (storing at bytes) cells
+pub stored_after : (files : List (List ℕ)) (cells : AddressSpace) (a : Access) (bytes : List ℕ) (grants : Grant) → 0 < a.len → a.len ≤ 4096 → length bytes ≡ a.len → IsWhole files cells →
+    change (brought files grants a cells) (first_page a) (page_count a) (λ page. option_map (stored_at a.at bytes page)) ≡ after_access files grants (making a bytes) cells
 unfolding after_access
-stored_after files cells at bytes grants some few whole =
-    change_twice cells (first_page (storing at bytes)) (page_count (storing at bytes)) (λ page. option_map (given files (granted grants page))) (λ page. option_map (stored_at at bytes page)) (λ page. option_map (touched files grants (storing at bytes) page))
+stored_after files cells a bytes grants some few long whole =
+    change_twice cells (first_page a) (page_count a) (λ page. option_map (given files (granted grants page))) (λ page. option_map (stored_at a.at bytes page)) (λ page. option_map (touched files grants (making a bytes) page))
     (λ q w. each q w (get cells q) refl)
   where
-    each : (q : ℕ) → within (first_page (storing at bytes)) (page_count (storing at bytes)) q ≡ true → (o : Option Cell) → get cells q ≡ o →
-        option_map (stored_at at bytes q) (option_map (given files (granted grants q)) o) ≡ option_map (touched files grants (storing at bytes) q) o
+    each : (q : ℕ) → within (first_page a) (page_count a) q ≡ true → (o : Option Cell) → get cells q ≡ o →
+        option_map (stored_at a.at bytes q) (option_map (given files (granted grants q)) o) ≡ option_map (touched files grants (making a bytes) q) o
     each q w None e = refl
     each q w (Some cell) e = ap (λ b. Some (Mapped (perm_of cell) (unwrap_or (granted grants q) (unwrap_or (frame_of cell) 0)) b))
-        (overwritten_is at q bytes (contents files cell) (touched_low (storing at bytes) some few q w) (touched_high (storing at bytes) some few q w) (whole q cell e))
+        (overwritten_is a.at q bytes (contents files cell) (touched_low a some few q w) (omega (arith, touched_high a some few q w, long)) (whole q cell e))
 
 -- Cells that carry the same numbers count alike.
 module _ (number_of : Cell → Option ℕ) (n : ℕ) (f : ℕ → Cell → Cell) (same : (page : ℕ) (c : Cell) → number_of (f page c) ≡ number_of c) (cells : AddressSpace) (first : ℕ) where
@@ -170,12 +173,10 @@ stored_slot at bytes page (File perm file index) = refl
 stored_slot at bytes page (Mapped perm frame b) = refl
 stored_slot at bytes page (Swapped perm slot b) = refl
 
-module _ (at : ℕ) (bytes : List ℕ) (before cells : AddressSpace) (first count : ℕ) (old new : List ℕ) where
-  abbrev stored : AddressSpace
-  stored = change cells first count (λ page. option_map (stored_at at bytes page))
-
-  pub frames_stored : Follows None frame_of old new before cells → Follows None frame_of old new before stored
-  frames_stored f = record { numbers = f.numbers; counts = λ n. omega (arith, f.counts n, carried_change frame_of n (stored_at at bytes) (stored_frame at bytes) cells first count) }
-
-  pub slots_stored : Follows None slot_of old new before cells → Follows None slot_of old new before stored
-  slots_stored f = record { numbers = f.numbers; counts = λ n. omega (arith, f.counts n, carried_change slot_of n (stored_at at bytes) (stored_slot at bytes) cells first count) }
+-- and the counts follow
+pub stored_follow : (at : ℕ) (bytes : List ℕ) (before cells : AddressSpace) (first count : ℕ) (old new : Counts) → Follow old new before cells →
+    Follow old new before (change cells first count (λ page. option_map (stored_at at bytes page)))
+stored_follow at bytes before cells first count old new f = record {
+  frames = record { numbers = f.frames.numbers; counts = λ n. omega (arith, f.frames.counts n, carried_change frame_of n (stored_at at bytes) (stored_frame at bytes) cells first count) };
+  slots = record { numbers = f.slots.numbers; counts = λ n. omega (arith, f.slots.counts n, carried_change slot_of n (stored_at at bytes) (stored_slot at bytes) cells first count) };
+}

@@ -1,31 +1,28 @@
 -- What the pages of an access want, and why it is refused.
-use Rattle.std.proofs.Common.{◌≡◌, ℕ, ◌+◌, ◌<◌, ◌≤◌, Bool, true, false, cond, not, ◌&&◌, List, [], ◌∷◌, ◌++◌, length, get_or, refl, sym, ap, ◌∙◌, arith}
-use Rattle.std.specs.Prelude.{Option, Some, None, IfSome, nat_eq, slice_index, map}
-use Rattle.std.specs.Option.{option_map, option_or, option_and_then, option_map_or}
+use Rattle.std.proofs.Common.{◌≡◌, ℕ, ◌+◌, ◌<◌, ◌≤◌, Bool, true, false, cond, ◌&&◌, List, [], ◌∷◌, ◌++◌, length, get_or, refl, sym, ap, ◌∙◌, arith}
+use Rattle.std.specs.Prelude.{Option, Some, None, IfSome, is_some, nat_eq, map}
+use Rattle.std.specs.Option.{option_map, option_or, option_map_or}
 use Rattle.std.specs.List.{filter}
 use Rattle.std.specs.Ordering.{nat_cmp}
 use mathlib.Core.Logic.{◌⊎◌, inl, inr}
 use Rattle.std.specs.Cmp.{nat_eq_equiv}
-use Rattle.std.proofs.lemmas.Bool.{eq-eqb, ne_eqb, lt-ltb, le-ltb, cond-true, cond-false}
+use Rattle.std.proofs.lemmas.Bool.{eq-eqb, ne_eqb, cond-true, cond-false}
 use Rattle.std.proofs.lemmas.List.{append-nil}
 use Rattle.std.specs.FinMap as fin
 use Rattle.std.specs.FinMap.{FinMap, get}
 use Rattle.corten_base.specs.declared.calls.Reply.{Reply}
-use Rattle.corten_base.specs.declared.calls.Reply.TheVariants as reply
 use Rattle.table_place.specs.Range.{within}
 use Rattle.page_map.specs.declared.cell.Cell.{Cell}
-use Rattle.page_map.specs.declared.cell.Cell.TheVariants.{Anon, File, Mapped, Swapped}
 use Rattle.page_map.specs.Change.{keys_in, earliest}
 use Rattle.page_map.specs.State.{AddressSpace, carries}
 use Rattle.page_map.specs.Access.{Access, first_page, page_count, refused_at, refused_access}
 use Rattle.page_map.proofs.Range.{inside}
 use Rattle.page_map.proofs.Keys.{keys_in_more, chosen}
 use Rattle.page_map.proofs.Owners.{one_weight, same_some}
-use Rattle.plain_counts.specs.Owners.{unused_of}
-use Rattle.plain_spaces.specs.Reach.{last_page, beyond, wants, wanting, lack, refused_in, carried, IsCounted}
-use Rattle.plain_spaces.specs.Wants.{want_of, is_wanting}
+use Rattle.plain_counts.specs.Counts.{carried, IsCounted}
+use Rattle.plain_spaces.specs.Reach.{last_page, beyond, wants, wanting}
+use Rattle.plain_spaces.specs.Wants.{moving, want_of}
 use Rattle.plain_spaces.specs.declared.plan.Want.{Want}
-use Rattle.plain_spaces.specs.declared.plan.Want.TheVariants.{Nothing, Frame}
 use Rattle.plain_spaces.proofs.Reach.{earliest_one, earliest_two, one_or_two}
 use Rattle.plain_counts.proofs.Tally.{counted}
 
@@ -45,37 +42,30 @@ has_count number_of counts cells ok page cell h = go (number_of cell) refl
     go None e = tt
     go (Some n) e = omega (arith, ok.each n, carried_here number_of n cells page cell h e)
 
-pub is_counted : (number_of : Cell → Option ℕ) (counts : List ℕ) (cells : AddressSpace) → IsCounted number_of counts cells → (page : ℕ) →
-    IfSome (option_and_then number_of (get cells page)) (λ n. n < length counts)
-is_counted number_of counts cells ok page = go (get cells page) refl
+pub is_counted : (number_of : Cell → Option ℕ) (counts : List ℕ) (cells : AddressSpace) → IsCounted number_of counts cells → (page : ℕ) (cell : Cell) → get cells page ≡ Some cell →
+    IfSome (number_of cell) (λ n. n < length counts)
+is_counted number_of counts cells ok page cell h = each (number_of cell) (has_count number_of counts cells ok page cell h)
   where
-    go : (o : Option Cell) → get cells page ≡ o → IfSome (option_and_then number_of o) (λ n. n < length counts)
-    go None e = tt
-    go (Some cell) e = each (number_of cell) (has_count number_of counts cells ok page cell e)
-      where
-        each : (o : Option ℕ) → IfSome o (λ n. 0 < get_or counts n 0) → IfSome o (λ n. n < length counts)
-        each None h = tt
-        each (Some n) h = counted counts n h
+    each : (o : Option ℕ) → IfSome o (λ n. 0 < get_or counts n 0) → IfSome o (λ n. n < length counts)
+    each None h = tt
+    each (Some n) h = counted counts n h
 
--- what a page wants has a frame in it where the page wants one
-wants_it : (files : List (List ℕ)) (owners : ℕ → ℕ) (write : Bool) (cell : Cell) → is_wanting (want_of owners write cell) ≡ wants owners write cell
-wants_it files owners write (Mapped perm frame bytes) = go (write && not (nat_eq (owners frame) 1))
+-- a page wants something where it wants a frame
+pub wants_it : (files : List (List ℕ)) (owners : ℕ → ℕ) (write : Bool) (cell : Cell) → is_some (want_of files owners write cell) ≡ wants owners write cell
+wants_it files owners write cell = go (wants owners write cell)
   where
-    go : (b : Bool) → is_wanting (cond b Frame Nothing) ≡ b
+    go : (b : Bool) → is_some (cond b (Some (moving files cell)) None) ≡ b
     go true = refl
     go false = refl
-wants_it files owners write (Anon perm) = refl
-wants_it files owners write (File perm file index) = refl
-wants_it files owners write (Swapped perm slot bytes) = refl
 
 module _ (files : List (List ℕ)) (owners : ℕ → ℕ) (write : Bool) where
-  pub chosen_wants : (page : ℕ) (o : Option Cell) (want : Want) → option_map (want_of owners write) o ≡ Some want → chosen (wants owners write) page o ≡ cond (is_wanting want) (page ∷ []) []
+  pub chosen_wants : (page : ℕ) (o : Option Cell) (want : Option Want) → option_map (want_of files owners write) o ≡ Some want → chosen (wants owners write) page o ≡ cond (is_some want) (page ∷ []) []
   unfolding chosen
   chosen_wants page None want e = absurd (none e)
     where
-      none : ◌≡◌ {A = Option Want} None (Some want) → ⊥
+      none : ◌≡◌ {A = Option (Option Want)} None (Some want) → ⊥
       none h = cc
-  chosen_wants page (Some cell) want e = ap (λ b. cond b (page ∷ []) []) (sym (wants_it files owners write cell) ∙ ap is_wanting (same_some e))
+  chosen_wants page (Some cell) want e = ap (λ b. cond b (page ∷ []) []) (sym (wants_it files owners write cell) ∙ ap is_some (same_some e))
 
 module _ {X : Type 0} (passes : X → Bool) (m : FinMap nat_cmp X) (low : ℕ) where
   pub no_keys : keys_in m low 0 passes ≡ []
@@ -118,28 +108,28 @@ module _ (files : List (List ℕ)) (cells : AddressSpace) (owners : ℕ → ℕ)
           ∙ ap (option_or (at (first_page a))) (sym (cond-false _ None (at (last_page a)) (ne_eqb (last_page a) (first_page a) (λ f. omega (arith, e.0, f)))))
 
   -- the pages that want a frame, from what the two pages want
-  pub wanting_is : (near far : Want) → option_map (want_of owners a.write) (get cells (first_page a)) ≡ Some near →
-      beyond a (Some Nothing) (option_map (want_of owners a.write) (get cells (last_page a))) ≡ Some far →
-      wanting owners cells a ≡ cond (is_wanting near) (first_page a ∷ []) [] ++ cond (is_wanting far) (last_page a ∷ []) []
+  pub wanting_is : (near far : Option Want) → option_map (want_of files owners a.write) (get cells (first_page a)) ≡ Some near →
+      beyond a (Some None) (option_map (want_of files owners a.write) (get cells (last_page a))) ≡ Some far →
+      wanting owners cells a ≡ cond (is_some near) (first_page a ∷ []) [] ++ cond (is_some far) (last_page a ∷ []) []
   wanting_is near far n f = go (one_or_two a some few)
     where
       go : ((last_page a ≡ first_page a) × (page_count a ≡ 1)) ⊎ ((last_page a ≡ first_page a + 1) × (page_count a ≡ 2)) →
-          wanting owners cells a ≡ cond (is_wanting near) (first_page a ∷ []) [] ++ cond (is_wanting far) (last_page a ∷ []) []
+          wanting owners cells a ≡ cond (is_some near) (first_page a ∷ []) [] ++ cond (is_some far) (last_page a ∷ []) []
       go (inl e) =
           ap (λ k. keys_in cells (first_page a) k (wants owners a.write)) e.1 ∙ keys_in_one (wants owners a.write) cells (first_page a)
           ∙ chosen_wants files owners a.write (first_page a) (get cells (first_page a)) near n
-          ∙ sym (append-nil (cond (is_wanting near) (first_page a ∷ []) []))
-          ∙ ap (λ w. cond (is_wanting near) (first_page a ∷ []) [] ++ cond (is_wanting w) (last_page a ∷ []) []) (same_some (sym (cond-true _ (Some Nothing) (option_map (want_of owners a.write) (get cells (last_page a))) (eq-eqb (last_page a) (first_page a) e.0)) ∙ f))
+          ∙ sym (append-nil (cond (is_some near) (first_page a ∷ []) []))
+          ∙ ap (λ w. cond (is_some near) (first_page a ∷ []) [] ++ cond (is_some w) (last_page a ∷ []) []) (same_some (sym (cond-true _ (Some None) (option_map (want_of files owners a.write) (get cells (last_page a))) (eq-eqb (last_page a) (first_page a) e.0)) ∙ f))
       go (inr e) =
           ap (λ k. keys_in cells (first_page a) k (wants owners a.write)) e.1 ∙ keys_in_two (wants owners a.write) cells (first_page a)
           ∙ (λ i. chosen_wants files owners a.write (first_page a) (get cells (first_page a)) near n i
           ++ (ap (λ page. chosen (wants owners a.write) page (get cells page)) (sym e.0)
-          ∙ chosen_wants files owners a.write (last_page a) (get cells (last_page a)) far (sym (cond-false _ (Some Nothing) (option_map (want_of owners a.write) (get cells (last_page a))) (ne_eqb (last_page a) (first_page a) (λ g. omega (arith, e.0, g)))) ∙ f)) i)
+          ∙ chosen_wants files owners a.write (last_page a) (get cells (last_page a)) far (sym (cond-false _ (Some None) (option_map (want_of files owners a.write) (get cells (last_page a))) (ne_eqb (last_page a) (first_page a) (λ g. omega (arith, e.0, g)))) ∙ f)) i)
 
-  pub count_wanting : (near far : Want) → option_map (want_of owners a.write) (get cells (first_page a)) ≡ Some near →
-      beyond a (Some Nothing) (option_map (want_of owners a.write) (get cells (last_page a))) ≡ Some far →
-      length (wanting owners cells a) ≡ cond (is_wanting near) 1 0 + cond (is_wanting far) 1 0
-  count_wanting near far n f = ap length (wanting_is near far n f) ∙ go (is_wanting near) (is_wanting far)
+  pub count_wanting : (near far : Option Want) → option_map (want_of files owners a.write) (get cells (first_page a)) ≡ Some near →
+      beyond a (Some None) (option_map (want_of files owners a.write) (get cells (last_page a))) ≡ Some far →
+      length (wanting owners cells a) ≡ cond (is_some near) 1 0 + cond (is_some far) 1 0
+  count_wanting near far n f = ap length (wanting_is near far n f) ∙ go (is_some near) (is_some far)
     where
       go : (b d : Bool) → length (cond b (first_page a ∷ []) [] ++ cond d (last_page a ∷ []) []) ≡ cond b 1 0 + cond d 1 0
       go true true = refl
@@ -147,29 +137,12 @@ module _ (files : List (List ℕ)) (cells : AddressSpace) (owners : ℕ → ℕ)
       go false true = refl
       go false false = refl
 
-module _ (files : List (List ℕ)) (cells : AddressSpace) (frames : List ℕ) (a : Access) (some : 0 < a.len) (few : a.len ≤ 4096) where
-  -- the pages refuse
-  pub refused_by_pages : (r : Reply) → refused_access files cells a ≡ Some r → refused_in files cells frames a ≡ Some r
-  refused_by_pages r e = ap (λ o. option_or o (lack (length (unused_of frames)) (length (wanting (slice_index frames) cells a)))) e
+  -- the first page refuses, or the last, or none
+  pub refused_by_near : (r : Reply) → at (first_page a) ≡ Some r → refused_access files cells a ≡ Some r
+  refused_by_near r e = refused_either ∙ ap (λ o. option_or o (beyond a None (at (last_page a)))) e
 
-  pub refused_by_near : (r : Reply) → refused_at files a.write (first_page a) (get cells (first_page a)) ≡ Some r → refused_in files cells frames a ≡ Some r
-  refused_by_near r e = refused_by_pages r (refused_either files cells (slice_index frames) a some few ∙ ap (λ o. option_or o (beyond a None (refused_at files a.write (last_page a) (get cells (last_page a))))) e)
+  pub refused_by_far : (r : Reply) → at (first_page a) ≡ None → beyond a None (at (last_page a)) ≡ Some r → refused_access files cells a ≡ Some r
+  refused_by_far r n e = refused_either ∙ (λ i. option_or (n i) (e i))
 
-  pub refused_by_far : (r : Reply) → refused_at files a.write (first_page a) (get cells (first_page a)) ≡ None →
-      beyond a None (refused_at files a.write (last_page a) (get cells (last_page a))) ≡ Some r → refused_in files cells frames a ≡ Some r
-  refused_by_far r n e = refused_by_pages r (refused_either files cells (slice_index frames) a some few ∙ (λ i. option_or (n i) (e i)))
-
-  -- the pages don't refuse, and so the frames decide
-  pub refused_by_frames : (near far : Want) → option_map (want_of (slice_index frames) a.write) (get cells (first_page a)) ≡ Some near →
-      beyond a (Some Nothing) (option_map (want_of (slice_index frames) a.write) (get cells (last_page a))) ≡ Some far →
-      refused_at files a.write (first_page a) (get cells (first_page a)) ≡ None → beyond a None (refused_at files a.write (last_page a) (get cells (last_page a))) ≡ None →
-      refused_in files cells frames a ≡ lack (length (unused_of frames)) (cond (is_wanting near) 1 0 + cond (is_wanting far) 1 0)
-  refused_by_frames near far n f nr fr =
-      ap (λ o. option_or o (lack (length (unused_of frames)) (length (wanting (slice_index frames) cells a)))) (refused_either files cells (slice_index frames) a some few ∙ (λ i. option_or (nr i) (fr i)))
-      ∙ ap (lack (length (unused_of frames))) (count_wanting files cells (slice_index frames) a some few near far n f)
-
-pub lacking : (free need : ℕ) → free < need → lack free need ≡ Some (reply.NoFrames free need)
-lacking free need h = cond-true _ _ _ (lt-ltb free need h)
-
-pub not_lacking : (free need : ℕ) → need ≤ free → lack free need ≡ None
-not_lacking free need h = cond-false _ _ _ (le-ltb free need h)
+  pub refused_by_none : at (first_page a) ≡ None → beyond a None (at (last_page a)) ≡ None → refused_access files cells a ≡ None
+  refused_by_none n e = refused_either ∙ (λ i. option_or (n i) (e i))

@@ -12,7 +12,8 @@ use Rattle.page_map.specs.Change.{change, set_at}
 use Rattle.page_map.specs.State.{AddressSpace}
 use Rattle.page_map.specs.Access.{Access, first_page, page_count}
 use Rattle.page_map.proofs.Range.{change_is, change_more, get-set_at}
-use Rattle.plain_spaces.specs.Reach.{last_page, overwritten, stored_at}
+use Rattle.space_cells.specs.Cells.{overwritten}
+use Rattle.plain_spaces.specs.Reach.{last_page, stored_at}
 use Rattle.plain_spaces.proofs.Reach.{one_or_two}
 use Rattle.plain_spaces.proofs.Moves.{change_one}
 use Rattle.plain_spaces.proofs.Brought.{within_one}

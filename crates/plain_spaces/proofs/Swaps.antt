@@ -1,6 +1,6 @@
 -- Pages that move one by one to the numbers that they get.
 use Rattle.std.proofs.Common.{◌≡◌, ℕ, ◌+◌, ◌-◌, ◌<◌, ◌≤◌, Bool, true, false, cond, List, [], ◌∷◌, length, refl, sym, ap, subst, ◌∙◌, arith}
-use Rattle.std.specs.Prelude.{Option, Some, None, nat_eq}
+use Rattle.std.specs.Prelude.{Option, Some, None, IfSome, nat_eq}
 use Rattle.std.specs.Option.{option_map}
 use Rattle.std.specs.Ordering.{nat_cmp}
 use Rattle.std.specs.Cmp.{unsigned_tied, nat_eq_equiv}
@@ -13,44 +13,40 @@ use Rattle.page_map.specs.State.{AddressSpace}
 use Rattle.page_map.specs.Swap.{moved, moved_to}
 use Rattle.page_map.specs.Takes.{Grant, grant, granted}
 use Rattle.page_map.proofs.Range.{get-change, inside, outside, change_none}
-use Rattle.plain_spaces.proofs.Keys.{keys_next, keys_here, keys_none, key_before, keys_alike}
-use Rattle.plain_spaces.proofs.FirstPages.{change_alike, change_quiet, change_skip, change_front}
+use Rattle.plain_spaces.proofs.Keys.{keys_past, keys_here, key_before, keys_alike}
+use Rattle.plain_spaces.proofs.FirstPages.{change_alike, change_skip, change_front}
 
 module _ (to : ℕ → Cell → Cell) where
   -- what is left to be done from a page on, where these numbers are unused
-  unfoldable pub left : (Cell → Bool) → AddressSpace → ℕ → ℕ → List ℕ → AddressSpace
-  left passes cells next end numbers = moved_to to (grant (keys_in cells next (end - next) passes) numbers) next (end - next) cells
+  unfoldable pub to_do : (Cell → Bool) → AddressSpace → ℕ → ℕ → List ℕ → AddressSpace
+  to_do passes cells next end numbers = moved_to to (grant (keys_in cells next (end - next) passes) numbers) next (end - next) cells
 
-  pub all_left : (passes : Cell → Bool) (cells : AddressSpace) (first count : ℕ) (numbers : List ℕ) →
-      left passes cells first (first + count) numbers ≡ moved_to to (grant (keys_in cells first count passes) numbers) first count cells
-  unfolding left
-  all_left passes cells first count numbers =
+  pub all_to_do : (passes : Cell → Bool) (cells : AddressSpace) (first count : ℕ) (numbers : List ℕ) →
+      to_do passes cells first (first + count) numbers ≡ moved_to to (grant (keys_in cells first count passes) numbers) first count cells
+  unfolding to_do
+  all_to_do passes cells first count numbers =
       let all : first + count - first ≡ count = omega arith in
       ap (λ n. moved_to to (grant (keys_in cells first n passes) numbers) first n cells) all
-
-  same_map : (o : Option Cell) → option_map (λ c. c) o ≡ o
-  same_map None = refl
-  same_map (Some c) = refl
 
   stays_put : (o : Option Cell) → option_map (moved to None) o ≡ o
   stays_put None = refl
   stays_put (Some c) = refl
 
-  -- up to the next page with a cell
-  pub left_next : (passes : Cell → Bool) (cells : AddressSpace) (next page end : ℕ) (numbers : List ℕ) → next ≤ page → page ≤ end → ((q : ℕ) → next ≤ q → q < page → get cells q ≡ None) →
-      left passes cells next end numbers ≡ left passes cells page end numbers
-  unfolding left moved_to
-  left_next passes cells next page end numbers low high none =
-      let grants : List ℕ → Grant = λ keys. grant keys numbers in
-      change_skip cells (λ q. option_map (moved to (granted (grants (keys_in cells next (end - next) passes)) q))) next page end low high
-      (λ q a b. ap (option_map (moved to (granted (grants (keys_in cells next (end - next) passes)) q))) (none q a b) ∙ sym (none q a b))
-      ∙ ap (λ keys. change cells page (end - page) (λ q. option_map (moved to (granted (grants keys) q)))) (keys_next passes cells next page end low high none)
+  -- up to a page before which none moves
+  pub to_do_next : (passes : Cell → Bool) (cells : AddressSpace) (next page end : ℕ) (numbers : List ℕ) → next ≤ page → page ≤ end → ((q : ℕ) → next ≤ q → q < page → IfSome (get cells q) (λ c. passes c ≡ false)) →
+      to_do passes cells next end numbers ≡ to_do passes cells page end numbers
+  unfolding to_do moved_to
+  to_do_next passes cells next page end numbers low high quiet =
+      let rest = keys_in cells page (end - page) passes in
+      ap (λ ks. change cells next (end - next) (λ q. option_map (moved to (granted (grant ks numbers) q)))) (keys_past passes cells next page end low high quiet)
+      ∙ change_skip cells (λ q. option_map (moved to (granted (grant rest numbers) q))) next page end low high
+      (λ q a b. ap (λ n. option_map (moved to n) (get cells q)) (key_before passes cells page (end - page) q numbers b) ∙ stays_put (get cells q))
 
   -- a page that stays
-  pub left_stays : (passes : Cell → Bool) (cells : AddressSpace) (page end : ℕ) (cell : Cell) (numbers : List ℕ) → page < end → get cells page ≡ Some cell → passes cell ≡ false →
-      left passes cells page end numbers ≡ left passes cells (page + 1) end numbers
-  unfolding left moved_to
-  left_stays passes cells page end cell numbers high here quiet =
+  pub to_do_stays : (passes : Cell → Bool) (cells : AddressSpace) (page end : ℕ) (cell : Cell) (numbers : List ℕ) → page < end → get cells page ≡ Some cell → passes cell ≡ false →
+      to_do passes cells page end numbers ≡ to_do passes cells (page + 1) end numbers
+  unfolding to_do moved_to
+  to_do_stays passes cells page end cell numbers high here quiet =
       let rest = keys_in cells (page + 1) (end - (page + 1)) passes in
       let keys : keys_in cells page (end - page) passes ≡ rest = keys_here passes cells page end cell high here ∙ ap (λ b. cond b (page ∷ rest) rest) quiet in
       ap (λ ks. change cells page (end - page) (λ q. option_map (moved to (granted (grant ks numbers) q)))) keys
@@ -59,11 +55,11 @@ module _ (to : ℕ → Cell → Cell) where
       ap (λ n. option_map (moved to n) (get cells q)) (key_before passes cells (page + 1) (end - (page + 1)) q numbers b) ∙ stays_put (get cells q))
 
   -- a page that gets the next number
-  pub left_moves : (passes passes' : Cell → Bool) (cells cells' : AddressSpace) (page end number : ℕ) (cell : Cell) (numbers : List ℕ) → page < end → get cells page ≡ Some cell → passes cell ≡ true →
+  pub to_do_moves : (passes passes' : Cell → Bool) (cells cells' : AddressSpace) (page end number : ℕ) (cell : Cell) (numbers : List ℕ) → page < end → get cells page ≡ Some cell → passes cell ≡ true →
       cells' ≡ change cells page 1 (λ _. option_map (to number)) → ((q : ℕ) (c : Cell) → page < q → get cells q ≡ Some c → passes' c ≡ passes c) →
-      left passes cells page end (number ∷ numbers) ≡ left passes' cells' (page + 1) end numbers
-  unfolding left moved_to
-  left_moves passes passes' cells cells' page end number cell numbers high here moves is tests =
+      to_do passes cells page end (number ∷ numbers) ≡ to_do passes' cells' (page + 1) end numbers
+  unfolding to_do moved_to
+  to_do_moves passes passes' cells cells' page end number cell numbers high here moves is tests =
       let rest = keys_in cells (page + 1) (end - (page + 1)) passes in
       let after : Grant = (page, number) ∷ grant rest numbers in
       let step : Grant → ℕ → Option Cell → Option Cell = λ grants q. option_map (moved to (granted grants q)) in
@@ -90,11 +86,13 @@ module _ (to : ℕ → Cell → Cell) where
           go false e = refl
           go true e = absurd (omega (arith, after, (inside page 1 q e).1))
 
-  -- no page is left
-  pub left_none : (passes : Cell → Bool) (cells : AddressSpace) (next end : ℕ) (numbers : List ℕ) → next ≤ end → ((q : ℕ) → next ≤ q → q < end → get cells q ≡ None) →
-      left passes cells next end numbers ≡ cells
-  unfolding left moved_to
-  left_none passes cells next end numbers low none =
-      sym (change_quiet cells (λ q. option_map (moved to (granted (grant (keys_in cells next (end - next) passes) numbers) q))) next (end - next) (λ q a b.
-      let none_here : get cells q ≡ None = none q a (omega (arith, low, b)) in
-      ap (option_map (moved to (granted (grant (keys_in cells next (end - next) passes) numbers) q))) none_here ∙ sym none_here))
+  -- no page moves any more
+  pub to_do_none : (passes : Cell → Bool) (cells : AddressSpace) (next end : ℕ) (numbers : List ℕ) → next ≤ end → ((q : ℕ) → next ≤ q → q < end → IfSome (get cells q) (λ c. passes c ≡ false)) →
+      to_do passes cells next end numbers ≡ cells
+  unfolding to_do moved_to
+  to_do_none passes cells next end numbers low quiet =
+      let nothing : end - end ≡ 0 = omega arith in
+      let f : ℕ → ℕ → Option Cell → Option Cell = λ n q. option_map (moved to (granted (grant (keys_in cells end n passes) numbers) q)) in
+      to_do_next passes cells next end end numbers low (omega arith) quiet
+      ∙ ap (λ n. change cells end n (f n)) nothing
+      ∙ change_none cells end (f 0)

@@ -1,18 +1,13 @@
--- What becomes of the spaces once a borrow of one of them ends, and of a space once a borrow of one of its cells does.
---     LendsSpace, LendsCell      the key has what was left there, and nothing changes where it is absent
+-- What becomes of the spaces once a borrow of one of them ends.
+--     LendsSpace      the key has what was left there, and nothing changes where it is absent
 use Rattle.std.specs.Prelude.{◌≡◌, ℕ, Option}
 use Rattle.std.specs.Option.{OnSome}
 use Rattle.std.specs.Borrow.{LendsSo, MutBor, Fml}
 use Rattle.std.specs.FinMap as map
 use Rattle.std.specs.Ordering.{nat_cmp}
 use Rattle.page_map.specs.State.{AddressSpace}
-use Rattle.page_map.specs.declared.cell.Cell.{Cell}
-use Rattle.page_map.specs.contracts.cell.Cell as cell
 use Rattle.plain_spaces.specs.contracts.spaces.Spaces as spaces
-use Rattle.plain_spaces.specs.contracts.space.AddressSpace as space
+use Rattle.space_cells.specs.contracts.space.AddressSpace as space
 
 abbrev pub LendsSpace : MutBor (map.FinMap nat_cmp AddressSpace) → ℕ → Option (MutBor AddressSpace) → Fml
 LendsSpace s number r = LendsSo spaces.the_row space.the_row s r (λ n w. OnSome r (n ≡ map.insert s.now number w)) (λ n. n ≡ s.now)
-
-abbrev pub LendsCell : MutBor AddressSpace → ℕ → Option (MutBor Cell) → Fml
-LendsCell s page r = LendsSo space.the_row cell.the_row s r (λ n w. OnSome r (n ≡ map.insert s.now page w)) (λ n. n ≡ s.now)

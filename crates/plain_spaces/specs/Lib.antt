@@ -1,7 +1,6 @@
 pub mod Lending
+pub mod Numbers
 pub mod Reach
 pub mod Wants
-pub mod Backing
-pub mod NewPages
 pub mod Swapping
 pub mod Copies

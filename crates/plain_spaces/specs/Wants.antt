@@ -1,59 +1,78 @@
 -- What the pages of an access want.
---     want_of, is_wanting      what a page wants;  whether that has a frame in it
---     HasBody      whether these are bytes
---     Suits      whether a page can want this
---     IsPlan      what the first page of an access wants, and what its last page does where that is another
+--     backing_bytes, lies_past      the bytes of what a page came from;  whether that lies wholly past the end of its file
+--     moving, want_of      what a page gets that wants a frame;  and what each page wants
+--     IsPlan, IsSomePlan      what the first page of an access wants, and what its last page does where that is another
+--     IsNeed      how many frames it wants
+--     from_of      the number that a page leaves, where it wants a frame
+--     in_frame, laid      a page on the frame that it got, where it wanted one;  the cells once it is there
+--     Made      the access is made, and stores these bytes
 --     refusal_of      the reply with which an access is refused
-use Rattle.std.specs.Prelude.{⊤, ◌≡◌, ℕ, ◌&&◌, Bool, true, false, cond, not, nat_eq, Option, Some, None}
+use Rattle.std.specs.Prelude.{◌≡◌, ℕ, ◌*◌, Bool, false, cond, List, length, nat_le, slice_index, Option, Some, None}
 use Rattle.std.specs.Option.{option_map}
 use Rattle.std.specs.FinMap as map
+use Rattle.corten_base.specs.declared.calls.Backing.{Backing}
+use Rattle.corten_base.specs.declared.calls.Backing.TheVariants.{Zero, File}
 use Rattle.corten_base.specs.declared.calls.Reply.{Reply}
 use Rattle.page_map.specs.declared.cell.Cell.{Cell}
-use Rattle.page_map.specs.declared.cell.Cell.TheVariants.{Anon, File, Mapped, Swapped}
-use Rattle.page_map.specs.Cell.{zeros}
+use Rattle.page_map.specs.Cell.{zeros, contents, file_bytes, file_page}
+use Rattle.page_map.specs.Change.{change}
 use Rattle.page_map.specs.State.{AddressSpace}
 use Rattle.page_map.specs.Access.{first_page}
-use Rattle.plain_spaces.specs.Reach.{last_page, beyond}
+use Rattle.space_cells.specs.declared.held.HeldPage.{HeldPage}
+use Rattle.space_cells.specs.declared.held.Number.{Number}
+use Rattle.space_cells.specs.declared.held.Number.TheVariants.{Frame}
+use Rattle.plain_counts.specs.declared.counts.Counts.{Counts}
+use Rattle.space_cells.specs.Cells.{number_of, with_held}
+use Rattle.plain_spaces.specs.Reach.{last_page, beyond, making, wants, wanting, IsUserAccess, IsWhole, Makes}
 use Rattle.plain_spaces.specs.declared.access.Stop.{Stop}
 use Rattle.plain_spaces.specs.declared.access.Stop.TheVariants.{Refused, NoMemory}
 use Rattle.plain_spaces.specs.declared.plan.Want.{Want}
-use Rattle.plain_spaces.specs.declared.plan.Want.TheVariants.{Nothing, Frame, Body}
 use Rattle.plain_spaces.specs.declared.plan.Plan.{Plan}
 
--- a page without bytes of its own wants a body of zeros, also one of a file
-abbrev pub want_of : (ℕ → ℕ) → Bool → Cell → Want
-want_of owners write (Mapped perm frame bytes) = cond (write && not (nat_eq (owners frame) 1)) Frame Nothing
-want_of owners write (Anon perm) = Body zeros
-want_of owners write (File perm file index) = Body zeros
-want_of owners write (Swapped perm slot bytes) = Frame
+abbrev pub backing_bytes : List (List ℕ) → Backing → List ℕ
+backing_bytes files Zero = zeros
+backing_bytes files (File file index) = file_page files file index
 
-abbrev pub is_wanting : Want → Bool
-is_wanting Nothing = false
-is_wanting Frame = true
-is_wanting (Body bytes) = true
+abbrev pub lies_past : List (List ℕ) → Backing → Bool
+lies_past files Zero = false
+lies_past files (File file index) = nat_le (length (file_bytes files file)) (4096 * index)
 
-abbrev pub HasBody : Want → Type 0
-HasBody Nothing = ⊥
-HasBody Frame = ⊥
-HasBody (Body bytes) = ⊤
+-- the number that it leaves, and the bytes that an access finds
+abbrev pub moving : List (List ℕ) → Cell → Want
+moving files cell = record { from = number_of cell; body = contents files cell }
 
-abbrev pub Suits : Cell → Want → Type 0
-Suits (Mapped perm frame bytes) Nothing = ⊤
-Suits (Mapped perm frame bytes) Frame = ⊤
-Suits (Mapped perm frame bytes) (Body body) = ⊥
-Suits (Anon perm) Nothing = ⊥
-Suits (Anon perm) Frame = ⊥
-Suits (Anon perm) (Body body) = body ≡ zeros
-Suits (File perm file index) Nothing = ⊥
-Suits (File perm file index) Frame = ⊥
-Suits (File perm file index) (Body body) = body ≡ zeros
-Suits (Swapped perm slot bytes) Nothing = ⊥
-Suits (Swapped perm slot bytes) Frame = ⊤
-Suits (Swapped perm slot bytes) (Body body) = ⊥
+abbrev pub want_of : List (List ℕ) → (ℕ → ℕ) → Bool → Cell → Option Want
+want_of files owners write cell = cond (wants owners write cell) (Some (moving files cell)) None
 
-pub record IsPlan (cells : AddressSpace) (owners : ℕ → ℕ) (plan : Plan) : Type 0 where
-  pub near : option_map (want_of owners plan.access.write) (map.get cells (first_page plan.access)) ≡ Some plan.near
-  pub far : beyond plan.access (Some Nothing) (option_map (want_of owners plan.access.write) (map.get cells (last_page plan.access))) ≡ Some plan.far
+pub record IsPlan (files : List (List ℕ)) (cells : AddressSpace) (owners : ℕ → ℕ) (plan : Plan) : Type 0 where
+  pub user : IsUserAccess plan.access
+  pub near : option_map (want_of files owners plan.access.write) (map.get cells (first_page plan.access)) ≡ Some plan.near
+  pub far : beyond plan.access (Some None) (option_map (want_of files owners plan.access.write) (map.get cells (last_page plan.access))) ≡ Some plan.far
+
+-- by the files of any shelf
+abbrev pub IsSomePlan : AddressSpace → (ℕ → ℕ) → Plan → Type 0
+IsSomePlan cells owners plan = (files : List (List ℕ)) × IsPlan files cells owners plan
+
+abbrev pub IsNeed : Plan → ℕ → Type 0
+IsNeed plan n = (files : List (List ℕ)) (cells : AddressSpace) (owners : ℕ → ℕ) → IsPlan files cells owners plan → n ≡ length (wanting owners cells plan.access)
+
+abbrev pub from_of : Option Want → Option Number
+from_of None = None
+from_of (Some want) = want.from
+
+abbrev pub in_frame : ℕ → Option ℕ → Option Want → Option (ℕ × HeldPage)
+in_frame page (Some frame) (Some want) = Some (page, record { number = Frame frame; bytes = want.body })
+in_frame page (Some frame) None = None
+in_frame page None (Some want) = None
+in_frame page None None = None
+
+abbrev pub laid : Option (ℕ × HeldPage) → AddressSpace → AddressSpace
+laid None cells = cells
+laid (Some e) cells = change cells e.0 1 (λ _. option_map (with_held e.1))
+
+abbrev pub Made : Counts → Counts → AddressSpace → AddressSpace → List ℕ → Plan → Type 0
+Made counts counts' cells cells' stored plan =
+    (files : List (List ℕ)) → IsPlan files cells (slice_index counts.frames) plan → IsWhole files cells → Makes files (making plan.access stored) cells cells' counts counts'
 
 abbrev pub refusal_of : Stop → Option Reply
 refusal_of (Refused reply) = Some reply

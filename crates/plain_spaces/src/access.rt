@@ -1,25 +1,16 @@
-//! Loads and stores on the cells of one space.
-ghost use Rattle.std.specs.Prelude.{◌≡◌, ℕ, ◌+◌, ◌%◌, ◌<◌, ◌≤◌, ◌^◌, true, List, length, IfOk, IfErr, OnOk, OnErr, IfSome, Some, None};
+//! Accesses to the cells of one space: which bytes they reach, and what they read and write.
+ghost use Rattle.std.specs.Prelude.{◌≡◌, ℕ, ◌+◌, ◌%◌, ◌<◌, ◌≤◌, ◌^◌, List, length, IfOk, IfErr, IfSome, Some, None};
 ghost use Rattle.std.specs.Option.{option_map};
-ghost use Rattle.std.specs.FinMap as map;
 ghost use Rattle.page_map.specs.Change.{change};
-ghost use Rattle.page_map.specs.Cell.{frame_of, slot_of};
-ghost use Rattle.corten_base.specs.declared.calls.Reply.TheVariants.{Bytes};
 ghost use Rattle.table_place.specs.Place.{is_user_page};
 ghost use Rattle.page_map.specs.Access.{first_page, page_count, outside_user_pages, loaded};
-ghost use Rattle.plain_spaces.specs.Reach.{reaching, storing, last_page, IsUserAccess, refused_in, overwritten, stored_at, bytes_of, IsResident, IsWhole, IsCounted, Makes, Keeps};
+ghost use Rattle.plain_spaces.specs.Reach.{reaching, last_page, IsUserAccess, stored_at, IsResident};
 ghost use Rattle.plain_spaces.specs.Wants.{refusal_of};
 
-use crate::space::AddressSpace;
 use corten_base::{ByteList, PAGE_BYTES, Reply};
-use file_shelf::Shelf;
-use page_map::Cell;
-use plain_counts::Owners;
-use std::alloc::{AllocError, Global};
+use space_cells::AddressSpace;
+use std::alloc::AllocError;
 use std::marker::Model;
-
-/// A page of zeros.
-static ZEROS: [u8; PAGE_BYTES] = [0; PAGE_BYTES];
 
 /// Bytes of user pages that are read or written: 1 to 4,096 of them, from an address on.
 #[derive(Clone, Copy)]
@@ -114,133 +105,30 @@ impl From<AllocError> for Stop {
     }
 }
 
-/// Writes bytes over those of a page, from a place on, if it has a frame.
-fn overwrite(cell: &mut Cell, place: u32, bytes: &[u8])
-    requires { place + length bytes.now ≤ 4096 }
-    ensures { cell.new ≡ overwritten place bytes.now cell.old }
+/// Writes the bytes of an access to those of its pages that have frames.
+pub(crate) fn write(cells: &mut AddressSpace, access: Access, bytes: &[u8])
+    requires { length bytes.now ≡ access.len }
+    ensures { cells.new ≡ change cells.old (first_page access) (page_count access) (λ page. option_map (stored_at access.at bytes.now page)) }
 {
-    if let Cell::Mapped { bytes: body, .. } = cell {
-        body.write_at(place, bytes);
+    let start = access.start();
+    let (near, far) = bytes.split_at(bytes.len().min(PAGE_BYTES - start as usize));
+    cells.write_at(access.first(), start, near);
+    if !far.is_empty() {
+        cells.write_at(access.last(), 0, far);
     }
 }
 
-impl AddressSpace {
-    /// Writes bytes over those of a page, from a place on, if it has a frame.
-    fn write_page(&mut self, page: u64, place: u32, bytes: &[u8])
-        requires { place + length bytes.now ≤ 4096 }
-        ensures { self.new ≡ change self.old page 1 (λ _. option_map (overwritten place bytes.now)) }
-    {
-        if let Some(cell) = self.get_mut(page) {
-            overwrite(cell, place, bytes);
-        }
-    }
-
-    /// Writes the bytes of an access to those of its pages that have frames.
-    fn write(&mut self, access: Access, bytes: &[u8])
-        requires { length bytes.now ≡ access.len }
-        ensures { self.new ≡ change self.old (first_page access) (page_count access) (λ page. option_map (stored_at access.at bytes.now page)) }
-    {
-        let start = access.start();
-        let (near, far) = bytes.split_at(bytes.len().min(PAGE_BYTES - start as usize));
-        self.write_page(access.first(), start, near);
-        if !far.is_empty() {
-            self.write_page(access.last(), 0, far);
-        }
-    }
-
-    /// The bytes of a page that has a frame, and none of another page.
-    fn bytes(&self, page: u64) -> &[u8]
-        ensures { result.now ≡ bytes_of (map.get self.now page) }
-    {
-        match self.get(page) {
-            Some(Cell::Mapped { bytes, .. }) => bytes.bytes(),
-            _ => &[],
-        }
-    }
-
-    /// Reads the bytes of an access, whose pages have frames.
-    fn read(&self, access: Access, out: &mut ByteList)
-        requires len { length out.old ≡ access.len }
-        requires resident { IsResident self.now access }
-        ensures { (files : List (List ℕ)) → out.new ≡ loaded files self.now access }
-    {
-        let start = access.start() as usize;
-        let len = out.bytes().len();
-        let near = len.min(PAGE_BYTES - start);
-        out.write_at(0, &self.bytes(access.first())[start..start + near]);
-        if near < len {
-            out.write_at(near as u32, &self.bytes(access.last())[..len - near]);
-        }
-    }
-
-    /// The bytes of an access, whose pages get the frames that they want.
-    pub fn load(
-        &mut self,
-        alloc: Global,
-        shelf: &Shelf,
-        frames: &mut Owners,
-        slots: &mut Owners,
-        access: Access,
-    ) -> Result<Reply, Stop>
-        requires whole { IsWhole shelf.now self.old }
-        requires frames { IsCounted frame_of frames.old self.old }
-        requires slots { IsCounted slot_of slots.old self.old }
-        ensures bytes { IfOk result (λ reply. reply ≡ Bytes (loaded shelf.now self.old access)) }
-        ensures made { OnOk result (Makes shelf.now access self.old self.new frames.old frames.new slots.old slots.new) }
-        ensures refused { IfErr result (λ stop. IfSome (refusal_of stop) (λ reply. refused_in shelf.now self.old frames.old access ≡ Some reply)) }
-        ensures kept { OnErr result (Keeps self.old self.new frames.old frames.new slots.old slots.new) }
-    {
-        let plan = self.plan(alloc, shelf, frames, access)?;
-        let mut bytes = ByteList::of(alloc, &ZEROS[..access.len as usize])?;
-        self.bring_in(shelf, plan, frames, slots);
-        self.read(access, &mut bytes);
-        Ok(Reply::Bytes(bytes))
-    }
-
-    /// Stores the bytes of an access, whose pages get the frames that they want.
-    pub fn store(
-        &mut self,
-        alloc: Global,
-        shelf: &Shelf,
-        frames: &mut Owners,
-        slots: &mut Owners,
-        access: Access,
-        bytes: &[u8],
-    ) -> Result<Reply, Stop>
-        requires write { access.write ≡ true }
-        requires len { length bytes.now ≡ access.len }
-        requires whole { IsWhole shelf.now self.old }
-        requires frames { IsCounted frame_of frames.old self.old }
-        requires slots { IsCounted slot_of slots.old self.old }
-        ensures reply { IfOk result (λ reply. reply ≡ Reply.Ok) }
-        ensures made { OnOk result (Makes shelf.now (storing access.at bytes.now) self.old self.new frames.old frames.new slots.old slots.new) }
-        ensures refused { IfErr result (λ stop. IfSome (refusal_of stop) (λ reply. refused_in shelf.now self.old frames.old access ≡ Some reply)) }
-        ensures kept { OnErr result (Keeps self.old self.new frames.old frames.new slots.old slots.new) }
-    {
-        let plan = self.plan(alloc, shelf, frames, access)?;
-        self.bring_in(shelf, plan, frames, slots);
-        self.write(access, bytes);
-        Ok(Reply::Ok)
-    }
-
-    /// Gives the pages of an access the frames that they want.
-    pub fn fault(
-        &mut self,
-        alloc: Global,
-        shelf: &Shelf,
-        frames: &mut Owners,
-        slots: &mut Owners,
-        access: Access,
-    ) -> Result<Reply, Stop>
-        requires frames { IsCounted frame_of frames.old self.old }
-        requires slots { IsCounted slot_of slots.old self.old }
-        ensures reply { IfOk result (λ reply. reply ≡ Reply.Ok) }
-        ensures made { OnOk result (Makes shelf.now access self.old self.new frames.old frames.new slots.old slots.new) }
-        ensures refused { IfErr result (λ stop. IfSome (refusal_of stop) (λ reply. refused_in shelf.now self.old frames.old access ≡ Some reply)) }
-        ensures kept { OnErr result (Keeps self.old self.new frames.old frames.new slots.old slots.new) }
-    {
-        let plan = self.plan(alloc, shelf, frames, access)?;
-        self.bring_in(shelf, plan, frames, slots);
-        Ok(Reply::Ok)
+/// Reads the bytes of an access, whose pages have frames.
+pub fn read(cells: &AddressSpace, access: Access, out: &mut ByteList)
+    requires len { length out.old ≡ access.len }
+    requires resident { IsResident cells.now access }
+    ensures { (files : List (List ℕ)) → out.new ≡ loaded files cells.now access }
+{
+    let start = access.start() as usize;
+    let len = out.bytes().len();
+    let near = len.min(PAGE_BYTES - start);
+    out.write_at(0, &cells.bytes(access.first())[start..start + near]);
+    if near < len {
+        out.write_at(near as u32, &cells.bytes(access.last())[..len - near]);
     }
 }

@@ -6,7 +6,7 @@ ghost use Rattle.std.specs.FinMap as map;
 ghost use Rattle.page_map.specs.Change.{least};
 ghost use Rattle.plain_spaces.specs.Lending.{LendsSpace};
 
-use crate::space::AddressSpace;
+use space_cells::AddressSpace;
 use std::alloc::{AllocError, Global};
 use std::collections::BTreeMap;
 use std::marker::Model;

@@ -13,7 +13,6 @@ use Rattle.page_map.specs.Cell.{with_perm}
 use Rattle.page_map.specs.Mapping.{op_first, op_pages, after_op, after_ops, backed}
 use Rattle.page_map.specs.State.{AddressSpace}
 use Rattle.page_map.proofs.Range.{get-change}
-use Rattle.txn_plan.specs.Applies.{left_at}
 use Rattle.txn_plan.specs.Covers.{presence_after, covered_by, covered}
 
 or_assoc : {A : Type 0} (a b c : Option A) → option_or (option_or a b) c ≡ option_or a (option_or b c)
@@ -29,7 +28,13 @@ pub covered-append : (xs : List TxnOp) (o : TxnOp) (q : ℕ) → covered (xs ++ 
 covered-append [] o q = or_none (covered_by o q)
 covered-append (x ∷ xs) o q = ap (λ c. option_or c (covered_by x q)) (covered-append xs o q) ∙ or_assoc (covered_by o q) (covered xs q) (covered_by x q)
 
-pub get-after_op : (o : TxnOp) (cells : AddressSpace) (q : ℕ) → get (after_op o cells) q ≡ cond (within (op_first o) (op_pages o) q) (left_at o q (get cells q)) (get cells q)
+-- what an operation leaves at a page of its range
+abbrev left_at : TxnOp → ℕ → Option Cell → Option Cell
+left_at (op.Map at fresh len perm what) page cell = Some (backed what perm (page - op_first (op.Map at fresh len perm what)))
+left_at (op.Unmap at len) page cell = None
+left_at (op.Protect at len perm) page cell = option_map (with_perm perm) cell
+
+get-after_op : (o : TxnOp) (cells : AddressSpace) (q : ℕ) → get (after_op o cells) q ≡ cond (within (op_first o) (op_pages o) q) (left_at o q (get cells q)) (get cells q)
 unfolding after_op
 get-after_op (op.Map at fresh len perm what) cells q = get-change cells (op_first (op.Map at fresh len perm what)) (pages_of len) (λ page _. Some (backed what perm (page - op_first (op.Map at fresh len perm what)))) q
 get-after_op (op.Unmap at len) cells q = get-change cells (op_first (op.Unmap at len)) (pages_of len) (λ _ _. None) q

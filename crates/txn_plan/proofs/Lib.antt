@@ -2,8 +2,7 @@ pub mod Covering
 pub mod Leasts
 pub mod Judging
 pub mod Needing
-pub mod Growing
-pub mod Acting
+pub mod Changed
 pub mod Added
 pub mod Unmapping
 pub mod Rights

@@ -13,8 +13,8 @@ use Rattle.table_place.specs.Place.{is_page_range}
 use Rattle.page_map.specs.Mapping.{op_first, op_pages, is_backing, is_right, is_right_within, undone}
 use Rattle.page_map.specs.State.{AddressSpace}
 use Rattle.page_map.proofs.Mappings.{right_over, none_undone}
-use Rattle.plain_spaces.specs.Backing.{index_of}
-use Rattle.txn_plan.specs.Applies.{first_index}
+use Rattle.page_runs.specs.Mark.{index_of}
+use Rattle.txn_plan.specs.Changes.{first_index}
 use Rattle.txn_plan.specs.Needs.{IsInSpan}
 
 all_from : {P Q : TxnOp → Type 0} → ((o : TxnOp) → P o → Q o) → (os : List TxnOp) → AllByRecursion P os → All Q os

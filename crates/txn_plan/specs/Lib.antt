@@ -1,4 +1,4 @@
 pub mod Covers
 pub mod Needs
-pub mod Applies
+pub mod Changes
 pub mod Forgetting

@@ -8,7 +8,7 @@ use crate::operation::{first_page, is_right_within, page_count};
 use crate::pieces::least_after;
 use corten_base::{Range, TxnOp, Why};
 use file_shelf::Shelf;
-use plain_spaces::AddressSpace;
+use space_cells::AddressSpace;
 
 /// The least page of a range that has a cell after these operations, where the range has to be empty.
 fn first_mapped(

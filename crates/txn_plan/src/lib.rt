@@ -3,12 +3,11 @@
 //! of at most 33 pieces for each operation or level.
 #![tactic(auto)]
 
-mod act;
 mod adding;
+mod changes;
 mod committing;
 mod forgetting;
 mod judge;
-mod make;
 mod need;
 mod operation;
 mod pieces;

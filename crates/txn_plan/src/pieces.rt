@@ -8,7 +8,7 @@ ghost use Rattle.txn_plan.specs.Covers.{covered, is_as};
 
 use crate::operation::{covered_by, first_page, page_count};
 use corten_base::TxnOp;
-use plain_spaces::AddressSpace;
+use space_cells::AddressSpace;
 
 /// Where a range begins or ends behind `place`, if that is before `edge`, and otherwise `edge`.
 pub(crate) fn nearer(first: u64, count: u64, place: u64, edge: u64) -> u64

@@ -1,9 +1,8 @@
 use Rattle.std.proofs.Common.{◌≡◌, Some, sym, ap, subst, ◌∙◌}
 use Rattle.std.specs.Option.{option_copied}
 use Rattle.std.specs.FinMap as map
-use Rattle.page_map.specs.Cell.{frame_of, slot_of}
-use Rattle.plain_spaces.specs.Copies.{AreLow, IsRoomy, JoinsAll}
-use Rattle.plain_spaces.specs.Reach.{IsCounted}
+use Rattle.plain_counts.specs.Counts.{AreCounted}
+use Rattle.plain_spaces.specs.Copies.{AreLow, AreRoomy, JoinAll}
 use Rattle.mm_model.proofs.NewSpaces.{get_inserted, borrowed, lent_is}
 use Rattle.mm_model.proofs.spaces.put_in.Goals as goal
 use Rattle.mm_model.proofs.spaces.put_in.Goals.{After-get, After-unwrap-cells}
@@ -21,20 +20,11 @@ same c = lent_is c.get.result c.unwrap-cells.result c.args.cells c.unwrap-cells.
 pub share-requires-clause-low : goal.share-requires-clause-low
 share-requires-clause-low c = subst (λ m. AreLow m) (sym (same (goal.at.share-requires-clause-low c).After-unwrap-cells)) c.requires.low
 
-pub share-requires-clause-frames : goal.share-requires-clause-frames
-share-requires-clause-frames c = subst (IsCounted frame_of c.args.frames.now) (sym (same (goal.at.share-requires-clause-frames c).After-unwrap-cells)) c.requires.frames
+pub share-requires-clause-counted : goal.share-requires-clause-counted
+share-requires-clause-counted c = subst (AreCounted c.args.counts.now) (sym (same (goal.at.share-requires-clause-counted c).After-unwrap-cells)) c.requires.counted
 
-pub share-requires-clause-slots : goal.share-requires-clause-slots
-share-requires-clause-slots c = subst (IsCounted slot_of c.args.slots.now) (sym (same (goal.at.share-requires-clause-slots c).After-unwrap-cells)) c.requires.slots
+pub share-requires-clause-room : goal.share-requires-clause-room
+share-requires-clause-room c = subst (AreRoomy c.args.counts.now) (sym (same (goal.at.share-requires-clause-room c).After-unwrap-cells)) c.requires.room
 
-pub share-requires-clause-room_for_frames : goal.share-requires-clause-room_for_frames
-share-requires-clause-room_for_frames c = subst (IsRoomy frame_of c.args.frames.now) (sym (same (goal.at.share-requires-clause-room_for_frames c).After-unwrap-cells)) c.requires.room_for_frames
-
-pub share-requires-clause-room_for_slots : goal.share-requires-clause-room_for_slots
-share-requires-clause-room_for_slots c = subst (IsRoomy slot_of c.args.slots.now) (sym (same (goal.at.share-requires-clause-room_for_slots c).After-unwrap-cells)) c.requires.room_for_slots
-
-pub returns-clause-frames : goal.returns-clause-frames
-returns-clause-frames c = subst (JoinsAll frame_of c.args.frames.now c.share.new.frames) (same (goal.at.returns-clause-frames c).After-unwrap-cells) c.share.ensures.frames
-
-pub returns-clause-slots : goal.returns-clause-slots
-returns-clause-slots c = subst (JoinsAll slot_of c.args.slots.now c.share.new.slots) (same (goal.at.returns-clause-slots c).After-unwrap-cells) c.share.ensures.slots
+pub returns-clause-counts : goal.returns-clause-counts
+returns-clause-counts c = subst (JoinAll c.args.counts.now c.share.new.counts) (same (goal.at.returns-clause-counts c).After-unwrap-cells) c.share.ensures

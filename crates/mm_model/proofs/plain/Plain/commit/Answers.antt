@@ -1,4 +1,4 @@
-use Rattle.std.proofs.Common.{◌≡◌, ℕ, ◌+◌, ◌^◌, ◌<◌, List, Some, None, refl, sym, ap, subst, MutBor, ◌∙◌}
+use Rattle.std.proofs.Common.{◌≡◌, ◌+◌, ◌^◌, ◌<◌, Some, None, refl, sym, ap, subst, MutBor, ◌∙◌}
 use Rattle.std.specs.Prelude.{Option, IsSome, Result, Ok, Err, OnErr}
 use Rattle.std.specs.List.{All, flat_map}
 use Rattle.std.specs.Option.{option_copied_mut}
@@ -7,14 +7,15 @@ use Rattle.std.specs.FinSet as set
 use Rattle.page_map.specs.Effect.{above_op}
 use Rattle.page_map.specs.Mapping.{op_pages, after_ops}
 use Rattle.page_map.specs.State.{State}
+use Rattle.plain_counts.specs.declared.counts.Counts.{Counts}
 use Rattle.plain_spaces.proofs.Moves.{put_back}
 use Rattle.plain_spaces.proofs.Variants.{some_borrow}
-use Rattle.txn_plan.specs.Applies.{first_index}
+use Rattle.txn_plan.specs.Changes.{first_index}
 use Rattle.txn_plan.specs.Forgetting.{Forgets}
 use Rattle.txn_plan.specs.Needs.{IsInSpan}
 use Rattle.mm_model.specs.Plain.{IsSound}
 use Rattle.mm_model.specs.Transactions.{MayCommit, after_commit}
-use Rattle.mm_model.proofs.AccessCalls.{frames_here, slots_here}
+use Rattle.mm_model.proofs.AccessCalls.{counted_here}
 use Rattle.mm_model.proofs.TxnSteps.{may_present, may_span, may_fit, next_is, commit_stays_sound}
 use Rattle.mm_model.proofs.plain.Plain.commit.Goals as goal
 use Rattle.mm_model.proofs.plain.Plain.commit.Goals.{After-get_mut, After-unwrap-cells, After-commit}
@@ -49,15 +50,10 @@ commit-requires-clause-index c =
     let at = (goal.at.commit-requires-clause-index c).After-get_mut in
     subst (λ os. All (λ o. first_index o + op_pages o < 2 ^ 64) os) (sym c.ops-list.ensures.value) (may_fit (before at) c.args.space c.args.ops.now (may at))
 
-pub commit-requires-clause-frames : goal.commit-requires-clause-frames
-commit-requires-clause-frames c =
-    let at = goal.at.commit-requires-clause-frames c in
-    frames_here (before at.After-get_mut) _ _ _ c.self.invariant c.args.space c.unwrap-cells.result.now (here at.After-unwrap-cells)
-
-pub commit-requires-clause-slots : goal.commit-requires-clause-slots
-commit-requires-clause-slots c =
-    let at = goal.at.commit-requires-clause-slots c in
-    slots_here (before at.After-get_mut) _ _ _ c.self.invariant c.args.space c.unwrap-cells.result.now (here at.After-unwrap-cells)
+pub commit-requires-clause-counted : goal.commit-requires-clause-counted
+commit-requires-clause-counted c =
+    let at = goal.at.commit-requires-clause-counted c in
+    counted_here (before at.After-get_mut) c.self.inside.counts c.self.inside.fronts c.self.invariant c.args.space c.unwrap-cells.result.now (here at.After-unwrap-cells)
 
 -- the spaces afterwards
 abbrev lent : (c : After-commit) → c.get_mut.follows.lender c.commit.new.cells ≡ map.insert c.self.inside.spaces c.args.space c.commit.new.cells
@@ -69,8 +65,8 @@ invariant_of-self c =
     let st = before at.After-get_mut in
     let kept = c.in_err-commit.ensures.kept in
     let same = lent at.After-commit ∙ ap (map.insert c.self.inside.spaces c.args.space) kept.same_cells ∙ put_back c.self.inside.spaces c.args.space c.unwrap-cells.result.now (here at.After-unwrap-cells) in
-    let P : State × List ℕ × List ℕ → Type 0 = λ x. IsSound x.0 x.1 x.2 c.self.inside.fronts in
-    subst P (λ i. (record st { spaces = sym same i; tables = sym c.in_err-commit.ensures.tables_stay i }, sym kept.same_frames i, sym kept.same_slots i)) c.self.invariant
+    let P : State × Counts → Type 0 = λ x. IsSound x.0 x.1.frames x.1.slots c.self.inside.fronts in
+    subst P (λ i. (record st { spaces = sym same i; tables = sym c.in_err-commit.ensures.tables_stay i }, sym kept.same_counts i)) c.self.invariant
 
 on_err : {A E P : Type 0} (r : Result A E) → P → OnErr r P
 on_err (Ok x) p = tt
@@ -91,11 +87,11 @@ invariant_of-self-2 c =
     let forgets : Forgets c.args.ops.now c.args.space c.self.inside.fronts c.forget_unmapped.new.fronts =
     subst (λ n. Forgets c.args.ops.now n c.self.inside.fronts c.forget_unmapped.new.fronts) c.number-number.ensures.value
     (subst (λ os. Forgets os c.number-number.result c.self.inside.fronts c.forget_unmapped.new.fronts) list c.forget_unmapped.ensures) in
-    subst (λ spaces. IsSound (record st { spaces = spaces; tables = c.commit.new.tables }) c.commit.new.frames c.commit.new.slots c.forget_unmapped.new.fronts) (sym (lent at.After-commit))
+    subst (λ spaces. IsSound (record st { spaces = spaces; tables = c.commit.new.tables }) c.commit.new.counts.frames c.commit.new.counts.slots c.forget_unmapped.new.fronts) (sym (lent at.After-commit))
     (commit_stays_sound st c.args.space c.args.ops.now (may at.After-get_mut) c.unwrap-cells.result.now c.commit.new.cells c.commit.new.tables (here at.After-unwrap-cells)
     (c.in_ok-commit.ensures.cells ∙ ap (λ os. after_ops os c.unwrap-cells.result.now) list)
     (c.in_ok-commit.ensures.tables st ∙ (λ i. set.union c.self.inside.tables (set.from_list (flat_map (above_op st (c.number-number.ensures.value i)) (list i)))))
-    c.self.inside.frames c.self.inside.slots c.self.inside.fronts c.commit.new.frames c.commit.new.slots c.forget_unmapped.new.fronts c.self.invariant c.in_ok-commit.ensures.frames c.in_ok-commit.ensures.slots forgets)
+    c.self.inside.counts.frames c.self.inside.counts.slots c.self.inside.fronts c.commit.new.counts.frames c.commit.new.counts.slots c.forget_unmapped.new.fronts c.self.invariant c.in_ok-commit.ensures.counts.frames c.in_ok-commit.ensures.counts.slots forgets)
 
 pub returns-clause-ok : goal.returns-clause-ok
 returns-clause-ok c =

@@ -4,9 +4,10 @@ use Rattle.corten_base.specs.declared.calls.Call.TheVariants as call
 use Rattle.corten_base.specs.declared.calls.Reply.TheVariants as reply
 use Rattle.page_map.specs.State.{State}
 use Rattle.mm_model.specs.Plain.{IsSound}
-use Rattle.mm_model.proofs.AccessCalls.{frames_here, slots_here}
+use Rattle.mm_model.proofs.AccessCalls.{counted_here}
 use Rattle.mm_model.proofs.Exits.{exit_absent, exit_step, exit_sound, none_removed}
 use Rattle.mm_model.proofs.OpCalls.{named}
+use Rattle.mm_model.proofs.SpaceSteps.{cells_low}
 use Rattle.mm_model.proofs.plain.Plain.exit.Goals as goal
 use Rattle.mm_model.proofs.plain.Plain.exit.Goals.{After-remove, In_default, In-Some}
 
@@ -23,7 +24,7 @@ same c = c.remove.ensures.spaces ∙ none_removed c.self.inside.spaces c.number-
 pub invariant_of-self : goal.invariant_of-self
 invariant_of-self c =
     let at = goal.at.invariant_of-self c in
-    subst (λ spaces. IsSound (record (before at.After-remove) { spaces = spaces }) c.self.inside.frames c.self.inside.slots c.self.inside.fronts) (sym (same at.In_default)) c.self.invariant
+    subst (λ spaces. IsSound (record (before at.After-remove) { spaces = spaces }) c.self.inside.counts.frames c.self.inside.counts.slots c.self.inside.fronts) (sym (same at.In_default)) c.self.invariant
 
 pub returns-in_default : goal.returns-in_default
 returns-in_default c =
@@ -36,21 +37,21 @@ returns-in_default c =
 abbrev here : (c : In-Some) → map.get c.self.inside.spaces c.number-number.result ≡ Some c.in-Some.cells
 here c = sym c.remove.ensures.value ∙ c.in-Some.is
 
-pub release-requires-clause-frames : goal.release-requires-clause-frames
-release-requires-clause-frames c =
-    let at = goal.at.release-requires-clause-frames c in
-    frames_here (before at.After-remove) _ _ _ c.self.invariant c.number-number.result c.in-Some.cells (here at.In-Some)
+pub leave-requires-clause-low : goal.leave-requires-clause-low
+leave-requires-clause-low c =
+    let at = goal.at.leave-requires-clause-low c in
+    cells_low (before at.After-remove) c.number-number.result c.in-Some.cells c.self.invariant.state (here at.In-Some)
 
-pub release-requires-clause-slots : goal.release-requires-clause-slots
-release-requires-clause-slots c =
-    let at = goal.at.release-requires-clause-slots c in
-    slots_here (before at.After-remove) _ _ _ c.self.invariant c.number-number.result c.in-Some.cells (here at.In-Some)
+pub leave-requires-clause-counted : goal.leave-requires-clause-counted
+leave-requires-clause-counted c =
+    let at = goal.at.leave-requires-clause-counted c in
+    counted_here (before at.After-remove) c.self.inside.counts c.self.inside.fronts c.self.invariant c.number-number.result c.in-Some.cells (here at.In-Some)
 
 pub invariant_of-self-2 : goal.invariant_of-self-2
 invariant_of-self-2 c =
     let at = goal.at.invariant_of-self-2 c in
-    exit_sound (before at.After-remove) c.number-number.result c.in-Some.cells c.release.new.self c.remove.new.self c.remove_space.new.self _ _ c.self.inside.fronts c.release.new.frames c.release.new.slots c.forget.new.self
-    c.self.invariant (here at.In-Some) c.remove.ensures.spaces c.remove_space.ensures c.release.ensures.cells c.release.ensures.frames c.release.ensures.slots c.forget.ensures.here c.forget.ensures.others
+    exit_sound (before at.After-remove) c.number-number.result c.in-Some.cells c.remove.new.self c.remove_space.new.self _ _ c.self.inside.fronts c.leave.new.counts.frames c.leave.new.counts.slots c.forget.new.self
+    c.self.invariant (here at.In-Some) c.remove.ensures.spaces c.remove_space.ensures c.leave.ensures.frames c.leave.ensures.slots c.forget.ensures.here c.forget.ensures.others
 
 pub returns : goal.returns
 returns c =

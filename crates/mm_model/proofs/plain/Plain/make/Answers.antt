@@ -1,5 +1,6 @@
-use Rattle.std.proofs.Common.{◌≡◌, ℕ, ◌-◌, List, sym, ap, subst, ◌∙◌, arith}
+use Rattle.std.proofs.Common.{◌≡◌, ◌-◌, sym, ap, subst, ◌∙◌, arith}
 use Rattle.page_map.specs.State.{State}
+use Rattle.plain_counts.specs.declared.counts.Counts.{Counts}
 use Rattle.mm_model.specs.Plain.{IsSound}
 use Rattle.mm_model.specs.NewSpaces.{MayMake, made}
 use Rattle.mm_model.specs.Placing.{lack, tables_lack}
@@ -24,7 +25,7 @@ overflow_sub-need c =
 pub invariant_of-self-in-Some : goal.invariant_of-self-in-Some
 invariant_of-self-in-Some c =
     let at = (goal.at.invariant_of-self-in-Some c).After-len-linked in
-    subst (λ tables. IsSound (record (before at) { tables = tables }) c.self.inside.frames c.self.inside.slots c.self.inside.fronts)
+    subst (λ tables. IsSound (record (before at) { tables = tables }) c.self.inside.counts.frames c.self.inside.counts.slots c.self.inside.fronts)
     (sym (back (before at) c.args.new c.args.cells c.args.limbo _ _ _ (may at) c.self.invariant c.add_tables.new.tables c.in_ok-add_tables.ensures.ok c.remove_space.new.self c.remove_space.ensures)) c.self.invariant
 
 -- the page tables that are missing, as the machine counted them
@@ -44,31 +45,27 @@ returns-in-Some-clause-ok c =
     c.in-Some.refused (lacks at.After-lack ∙ c.in-Some.is) c.remove_space.new.self c.remove_space.ensures
     ∙ ap (λ st. made st c.args.new c.args.cells c.args.limbo) c.self.view_is
 
-pub put_in-requires-clause-frames : goal.put_in-requires-clause-frames
-put_in-requires-clause-frames c =
-    let at = (goal.at.put_in-requires-clause-frames c).After-len-linked in
-    frames_in (before at) c.args.new c.args.cells c.args.limbo _ _ _ (may at) c.self.invariant
+pub put_in-requires-clause-counted : goal.put_in-requires-clause-counted
+put_in-requires-clause-counted c =
+    let at = (goal.at.put_in-requires-clause-counted c).After-len-linked in
+    record {
+      frames = frames_in (before at) c.args.new c.args.cells c.args.limbo _ _ _ (may at) c.self.invariant;
+      slots = slots_in (before at) c.args.new c.args.cells c.args.limbo _ _ _ (may at) c.self.invariant;
+    }
 
-pub put_in-requires-clause-slots : goal.put_in-requires-clause-slots
-put_in-requires-clause-slots c =
-    let at = (goal.at.put_in-requires-clause-slots c).After-len-linked in
-    slots_in (before at) c.args.new c.args.cells c.args.limbo _ _ _ (may at) c.self.invariant
-
-pub put_in-requires-clause-room_for_frames : goal.put_in-requires-clause-room_for_frames
-put_in-requires-clause-room_for_frames c =
-    let at = (goal.at.put_in-requires-clause-room_for_frames c).After-len-linked in
-    frames_fit (before at) c.args.new c.args.cells c.args.limbo _ _ _ (may at) c.self.invariant
-
-pub put_in-requires-clause-room_for_slots : goal.put_in-requires-clause-room_for_slots
-put_in-requires-clause-room_for_slots c =
-    let at = (goal.at.put_in-requires-clause-room_for_slots c).After-len-linked in
-    slots_fit (before at) c.args.new c.args.cells c.args.limbo _ _ _ (may at) c.self.invariant
+pub put_in-requires-clause-room : goal.put_in-requires-clause-room
+put_in-requires-clause-room c =
+    let at = (goal.at.put_in-requires-clause-room c).After-len-linked in
+    record {
+      frames = frames_fit (before at) c.args.new c.args.cells c.args.limbo _ _ _ (may at) c.self.invariant;
+      slots = slots_fit (before at) c.args.new c.args.cells c.args.limbo _ _ _ (may at) c.self.invariant;
+    }
 
 pub invariant_of-self-in-Ok : goal.invariant_of-self-in-Ok
 invariant_of-self-in-Ok c =
     let all = goal.at.invariant_of-self-in-Ok c in
     let at = all.After-len-linked in
-    made_is_sound (before at) c.args.new c.args.cells c.args.limbo _ _ _ (may at) c.self.invariant c.add_tables.new.tables c.in_ok-add_tables.ensures.ok (lacks all.After-lack ∙ c.in_default.is) c.put_in.new.spaces c.in-Ok.ensures.spaces c.put_in.new.frames c.put_in.new.slots c.in-Ok.ensures.frames c.in-Ok.ensures.slots
+    made_is_sound (before at) c.args.new c.args.cells c.args.limbo _ _ _ (may at) c.self.invariant c.add_tables.new.tables c.in_ok-add_tables.ensures.ok (lacks all.After-lack ∙ c.in_default.is) c.put_in.new.spaces c.in-Ok.ensures.spaces c.put_in.new.counts.frames c.put_in.new.counts.slots c.in-Ok.ensures.counts.frames c.in-Ok.ensures.counts.slots
 
 pub returns-in-Ok-clause-ok : goal.returns-in-Ok-clause-ok
 returns-in-Ok-clause-ok c =
@@ -82,9 +79,9 @@ pub invariant_of-self-in-Err : goal.invariant_of-self-in-Err
 invariant_of-self-in-Err c =
     let at = (goal.at.invariant_of-self-in-Err c).After-len-linked in
     let st = before at in
-    let P : State × List ℕ × List ℕ → Type 0 = λ x. IsSound x.0 x.1 x.2 c.self.inside.fronts in
+    let P : State × Counts → Type 0 = λ x. IsSound x.0 x.1.frames x.1.slots c.self.inside.fronts in
     let tables = back st c.args.new c.args.cells c.args.limbo _ _ _ (may at) c.self.invariant c.add_tables.new.tables c.in_ok-add_tables.ensures.ok c.remove_space-in-Err.new.self c.remove_space-in-Err.ensures in
-    subst P (λ i. (record st { spaces = sym c.in-Err.ensures.spaces_stay i; tables = sym tables i }, sym c.in-Err.ensures.frames_stay i, sym c.in-Err.ensures.slots_stay i)) c.self.invariant
+    subst P (λ i. (record st { spaces = sym c.in-Err.ensures.spaces_stay i; tables = sym tables i }, sym c.in-Err.ensures.counts_stay i)) c.self.invariant
 
 pub returns-in-Err-clause-err : goal.returns-in-Err-clause-err
 returns-in-Err-clause-err c =

@@ -11,7 +11,7 @@ invariant_of-result-2 c =
     let spaces = c.spaces.view_is ∙ c.in_ok-spaces.ensures in
     let tables = c.in_ok-tables.ensures in
     let P : State × List ℕ × List ℕ × List ℕ → Type 0 = λ x. IsSound x.0 x.1 x.2 x.3 in
-    subst P (λ i. (record { spaces = sym spaces i; tables = sym tables i; limits = c.args.limits; files = sym c.shelf.view_is i }, sym c.in_ok-new.ensures i, sym c.in_ok-new-2.ensures i, sym c.in_ok-new-3.ensures i))
+    subst P (λ i. (record { spaces = sym spaces i; tables = sym tables i; limits = c.args.limits; files = sym c.shelf.view_is i }, sym c.in_ok-new.ensures.frames i, sym c.in_ok-new.ensures.slots i, sym c.in_ok-new-2.ensures i))
     (start_is_sound c.args.limits c.args.shelf c.requires)
 
 pub returns-clause-ok : goal.returns-clause-ok

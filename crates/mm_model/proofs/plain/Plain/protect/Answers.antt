@@ -1,5 +1,5 @@
 use Rattle.std.proofs.Common.{◌≡◌, ℕ, ◌+◌, ◌*◌, ◌/◌, ◌≤◌, ◌^◌, true, false, [], None, refl, sym, ap, subst, ◌∙◌, arith}
-use Rattle.std.specs.Prelude.{IsSome, is_none, nat_le, nat_lt}
+use Rattle.std.specs.Prelude.{IsSome, Result, Ok, Err, OnErr, is_none, nat_le, nat_lt}
 use Rattle.std.specs.Option.{OnSome, option_map}
 use Rattle.std.specs.FinMap as map
 use Rattle.std.proofs.lemmas.Bool.{ltb-true, and_parts}
@@ -9,25 +9,25 @@ use Rattle.corten_base.specs.declared.calls.TxnOp.TheVariants as op
 use Rattle.corten_base.specs.declared.calls.Why.TheVariants as why
 use Rattle.corten_base.specs.declared.permissions.Perm.{Perm}
 use Rattle.table_place.specs.Place.{is_page_range, pages_of}
-use Rattle.page_map.specs.Cell.{frame_of, slot_of, with_perm}
+use Rattle.page_map.specs.Cell.{with_perm}
 use Rattle.page_map.specs.Change.{change, least}
 use Rattle.page_map.specs.Mapping.{refused_op, after_op}
 use Rattle.page_map.specs.State.{State, linked}
 use Rattle.page_map.specs.Tables.{Tables, changed_tables}
 use Rattle.page_map.proofs.Least.{least_passes}
 use Rattle.plain_spaces.proofs.Moves.{put_back}
-use Rattle.plain_spaces.specs.Reach.{Follows}
-use Rattle.plain_spaces.proofs.Followed.{protected_stay, protected_slots_stay}
+use Rattle.plain_counts.specs.Counts.{Follow}
+use Rattle.plain_spaces.proofs.Followed.{all_protected}
 use Rattle.mm_model.specs.Plain.{IsSound}
 use Rattle.mm_model.proofs.AccessSteps.{no_need, same_tables}
 use Rattle.mm_model.proofs.Full.{full_stays, change_stays}
 use Rattle.mm_model.proofs.OpSteps.{protect_op, missing}
 use Rattle.mm_model.proofs.OpCalls.{no_range, wrong, absent, stopped, step_is, op_stays_sound, named}
 use Rattle.mm_model.proofs.plain.Plain.protect.Goals as goal
-use Rattle.mm_model.proofs.plain.Plain.protect.Goals.{After-get_mut, After-hole, After-protect}
+use Rattle.mm_model.proofs.plain.Plain.protect.Goals.{After-get_mut, After-hole, After-protect, In_ok-protect}
 
-pub returns-in_default : goal.returns-in_default
-returns-in_default c = λ thread limbo legal.
+pub returns-in_default-clause-ok : goal.returns-in_default-clause-ok
+returns-in_default-clause-ok c = λ thread limbo legal.
     wrong c.args.self.now (call.Protect c.args.space c.args.at c.args.len c.args.perm) c.args.space _ _ _ _ (protect_op c.args.self.now c.args.space c.args.at c.args.len c.args.perm) thread limbo
     (no_range (is_page_range 4 c.args.at c.args.len) c.in_default.ensures.some.1)
 
@@ -39,9 +39,9 @@ before c = record { spaces = c.self.inside.spaces; tables = c.self.inside.tables
 abbrev right : (c : After-get_mut) → is_page_range 4 c.args.at c.args.len ≡ true
 right c = c.in-Some.ensures.some.0 refl
 
-pub returns-in_default-get_mut : goal.returns-in_default-get_mut
-returns-in_default-get_mut c =
-    let at = (goal.at.returns-in_default-get_mut c).After-get_mut in
+pub returns-in_default-get_mut-clause-ok : goal.returns-in_default-get_mut-clause-ok
+returns-in_default-get_mut-clause-ok c =
+    let at = (goal.at.returns-in_default-get_mut-clause-ok c).After-get_mut in
     named (before at) c.args.self.now c.self.view_is c.number.result c.args.space c.number.ensures.value (λ n. call.Protect n c.args.at c.args.len c.args.perm) reply.NoSpace _
     (λ thread limbo legal. (λ i. (reply.NoSpace, record (before at) { spaces = c.get_mut.follows.holds-at-none i }))
     ∙ absent (before at) (call.Protect c.number.result c.args.at c.args.len c.args.perm) c.number.result _ _ _ _ (protect_op (before at) c.number.result c.args.at c.args.len c.args.perm) thread limbo (right at) (sym c.in_default-get_mut.ensures.value))
@@ -72,11 +72,11 @@ same c =
 pub invariant_of-self-in-Some-hole : goal.invariant_of-self-in-Some-hole
 invariant_of-self-in-Some-hole c =
     let at = goal.at.invariant_of-self-in-Some-hole c in
-    subst (λ spaces. IsSound (record (before at.After-get_mut) { spaces = spaces }) c.self.inside.frames c.self.inside.slots c.self.inside.fronts) (sym (same at.After-hole)) c.self.invariant
+    subst (λ spaces. IsSound (record (before at.After-get_mut) { spaces = spaces }) c.self.inside.counts.frames c.self.inside.counts.slots c.self.inside.fronts) (sym (same at.After-hole)) c.self.invariant
 
-pub returns-in-Some-hole : goal.returns-in-Some-hole
-returns-in-Some-hole c =
-    let at = goal.at.returns-in-Some-hole c in
+pub returns-in-Some-hole-clause-ok : goal.returns-in-Some-hole-clause-ok
+returns-in-Some-hole-clause-ok c =
+    let at = goal.at.returns-in-Some-hole-clause-ok c in
     let st = before at.After-get_mut in
     let n = c.number.result in
     named st c.args.self.now c.self.view_is n c.args.space c.number.ensures.value (λ n. call.Protect n c.args.at c.args.len c.args.perm) (reply.Hole (4096 * c.in-Some-hole.hole)) _
@@ -84,6 +84,26 @@ returns-in-Some-hole c =
     ∙ stopped st (call.Protect n c.args.at c.args.len c.args.perm) n _ _ _ _ (protect_op st n c.args.at c.args.len c.args.perm) thread limbo (right at.After-get_mut)
     c.in-Some-get_mut.cells.now (sym c.in-Some-get_mut.ensures.value) (why.Hole (4096 * c.in-Some-hole.hole))
     (ap (option_map (λ page. why.Hole (4096 * page))) (sym (holes_are at.After-hole) ∙ c.in-Some-hole.is)))
+
+-- without memory nothing has changed
+abbrev lent_back : (c : After-protect) → c.protect.new.self ≡ c.in-Some-get_mut.cells.now → c.get_mut.follows.lender c.protect.new.self ≡ c.self.inside.spaces
+lent_back c e =
+    subst (λ o. OnSome o (c.get_mut.follows.lender c.protect.new.self ≡ map.insert c.self.inside.spaces c.number.result c.protect.new.self)) c.in-Some-get_mut.is (c.get_mut.follows.holds c.protect.new.self)
+    ∙ ap (map.insert c.self.inside.spaces c.number.result) e ∙ put_back c.self.inside.spaces c.number.result c.in-Some-get_mut.cells.now (sym c.in-Some-get_mut.ensures.value)
+
+pub invariant_of-self-2 : goal.invariant_of-self-2
+invariant_of-self-2 c =
+    let at = goal.at.invariant_of-self-2 c in
+    subst (λ spaces. IsSound (record (before at.After-get_mut) { spaces = spaces }) c.self.inside.counts.frames c.self.inside.counts.slots c.self.inside.fronts) (sym (lent_back at.After-protect c.in_err-protect.ensures.err)) c.self.invariant
+
+on_err : {A E P : Type 0} (r : Result A E) → P → OnErr r P
+on_err (Ok x) p = tt
+on_err (Err e) p = p
+
+pub returns-in_err-protect-clause-err : goal.returns-in_err-protect-clause-err
+returns-in_err-protect-clause-err c =
+    let at = goal.at.returns-in_err-protect-clause-err c in
+    on_err c.from_residual.result ((λ i. record (before at.After-get_mut) { spaces = lent_back at.After-protect c.in_err-protect.ensures.err i }) ∙ c.self.view_is)
 
 -- the spaces and the cells afterwards
 abbrev lent : (c : After-protect) → c.get_mut.follows.lender c.protect.new.self ≡ map.insert c.self.inside.spaces c.number.result c.protect.new.self
@@ -95,9 +115,9 @@ first_here c = c.first-first.ensures.value ∙ ap (λ r. r.first) c.in-Some.ensu
 abbrev count_here : (c : After-protect) → c.count-count.result ≡ pages_of c.args.len
 count_here c = c.count-count.ensures.value ∙ ap (λ r. r.count) c.in-Some.ensures.value
 
-cells_are : (c : After-protect) → c.protect.new.self ≡ after_op (op.Protect c.args.at c.args.len c.args.perm) c.in-Some-get_mut.cells.now
+cells_are : (c : In_ok-protect) → c.protect.new.self ≡ after_op (op.Protect c.args.at c.args.len c.args.perm) c.in-Some-get_mut.cells.now
 unfolding after_op
-cells_are c = c.protect.ensures ∙ (λ i. change c.in-Some-get_mut.cells.now (first_here c i) (count_here c i) (λ _. option_map (with_perm c.args.perm)))
+cells_are c = c.in_ok-protect.ensures.ok ∙ (λ i. change c.in-Some-get_mut.cells.now (first_here c i) (count_here c i) (λ _. option_map (with_perm c.args.perm)))
 
 allowed : (c : After-protect) → refused_op (op.Protect c.args.at c.args.len c.args.perm) c.in-Some-get_mut.cells.now ≡ None
 allowed c = ap (option_map (λ page. why.Hole (4096 * page)))
@@ -111,31 +131,31 @@ fits st space at len limbo perm legal = omega (arith, no_need [] refl st.tables,
 tables_are : (tables : Tables) → tables ≡ changed_tables (λ _. false) [] tables
 tables_are tables = sym (same_tables (λ _. false) (λ _. refl) [] refl tables)
 
-pub invariant_of-self-2 : goal.invariant_of-self-2
-invariant_of-self-2 c =
-    let at = goal.at.invariant_of-self-2 c in
+pub invariant_of-self-3 : goal.invariant_of-self-3
+invariant_of-self-3 c =
+    let at = goal.at.invariant_of-self-3 c in
     let st = before at.After-get_mut in
     let n = c.number.result in
     let cells = c.in-Some-get_mut.cells.now in
     let first = c.first-first.result in
     let count = c.count-count.result in
     let here = sym c.in-Some-get_mut.ensures.value in
-    let is = sym c.protect.ensures in
+    let is = sym c.in_ok-protect.ensures.ok in
     let full = full_stays st n cells c.protect.new.self c.self.inside.tables c.self.inside.fronts here
     (λ q there. subst (λ m. IsSome (map.get m q)) is (change_stays cells first count (λ _. option_map (with_perm c.args.perm)) (λ _ _. refl) q there)) c.self.invariant.full in
-    subst (λ spaces. IsSound (record st { spaces = spaces }) c.self.inside.frames c.self.inside.slots c.self.inside.fronts) (sym (lent at.After-protect))
+    subst (λ spaces. IsSound (record st { spaces = spaces }) c.self.inside.counts.frames c.self.inside.counts.slots c.self.inside.fronts) (sym (lent at.After-protect))
     (op_stays_sound st (call.Protect n c.args.at c.args.len c.args.perm) n (op.Protect c.args.at c.args.len c.args.perm) _ _ _ (protect_op st n c.args.at c.args.len c.args.perm) (right at.After-get_mut) cells here (allowed at.After-protect)
-    c.protect.new.self c.self.inside.tables (cells_are at.After-protect) (tables_are c.self.inside.tables) c.self.inside.frames c.self.inside.slots c.self.inside.fronts c.self.inside.frames c.self.inside.slots c.self.inside.fronts c.self.invariant
+    c.protect.new.self c.self.inside.tables (cells_are at.In_ok-protect) (tables_are c.self.inside.tables) c.self.inside.counts.frames c.self.inside.counts.slots c.self.inside.fronts c.self.inside.counts.frames c.self.inside.counts.slots c.self.inside.fronts c.self.invariant
     0 (fits st n c.args.at c.args.len 0 c.args.perm (omega (arith, c.self.invariant.state.tables)))
-    (subst (Follows None frame_of c.self.inside.frames c.self.inside.frames cells) is (protected_stay c.self.inside.frames cells first count c.args.perm))
-    (subst (Follows None slot_of c.self.inside.slots c.self.inside.slots cells) is (protected_slots_stay c.self.inside.slots cells first count c.args.perm)) full)
+    (subst (Follow c.self.inside.counts c.self.inside.counts cells) is (all_protected c.self.inside.counts cells first count c.args.perm)).frames
+    (subst (Follow c.self.inside.counts c.self.inside.counts cells) is (all_protected c.self.inside.counts cells first count c.args.perm)).slots full)
 
-pub returns : goal.returns
-returns c =
-    let at = goal.at.returns c in
+pub returns-clause-ok : goal.returns-clause-ok
+returns-clause-ok c =
+    let at = goal.at.returns-clause-ok c in
     let st = before at.After-get_mut in
     let n = c.number.result in
     named st c.args.self.now c.self.view_is n c.args.space c.number.ensures.value (λ n. call.Protect n c.args.at c.args.len c.args.perm) reply.Ok _
     (λ thread limbo legal. (λ i. (reply.Ok, record st { spaces = lent at.After-protect i }))
     ∙ step_is st (call.Protect n c.args.at c.args.len c.args.perm) n (op.Protect c.args.at c.args.len c.args.perm) _ _ _ (protect_op st n c.args.at c.args.len c.args.perm) (right at.After-get_mut) c.in-Some-get_mut.cells.now (sym c.in-Some-get_mut.ensures.value) (allowed at.After-protect)
-    c.protect.new.self c.self.inside.tables (cells_are at.After-protect) (tables_are c.self.inside.tables) thread limbo (fits st n c.args.at c.args.len limbo c.args.perm legal))
+    c.protect.new.self c.self.inside.tables (cells_are at.In_ok-protect) (tables_are c.self.inside.tables) thread limbo (fits st n c.args.at c.args.len limbo c.args.perm legal))

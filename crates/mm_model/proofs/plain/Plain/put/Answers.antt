@@ -3,15 +3,16 @@ use Rattle.std.specs.Prelude.{IsSome, Result, Ok, Err, OnOk, OnErr}
 use Rattle.std.specs.declared.alloc.AllocError.{AllocError}
 use Rattle.std.specs.Option.{unwrap_or, option_copied_mut}
 use Rattle.std.specs.FinMap as map
-use Rattle.page_map.specs.Cell.{frame_of, slot_of}
 use Rattle.page_map.specs.State.{State, AddressSpace}
 use Rattle.page_map.specs.Tables.{Tables}
-use Rattle.plain_spaces.specs.Reach.{Follows, Keeps}
+use Rattle.plain_counts.specs.declared.counts.Counts.{Counts}
+use Rattle.plain_counts.specs.Counts.{Follow}
+use Rattle.plain_spaces.specs.Numbers.{Keeps}
 use Rattle.plain_spaces.proofs.Moves.{put_back}
 use Rattle.plain_spaces.proofs.Variants.{some_borrow}
 use Rattle.mm_model.specs.Placing.{MayPut, after_put, filled, tables_with}
 use Rattle.mm_model.specs.Plain.{IsSound}
-use Rattle.mm_model.proofs.AccessCalls.{frames_here, slots_here}
+use Rattle.mm_model.proofs.AccessCalls.{counted_here}
 use Rattle.mm_model.proofs.Full.{full_stays, change_stays}
 use Rattle.mm_model.proofs.Placed.{put_stays_sound}
 use Rattle.mm_model.proofs.plain.Plain.put.Goals as goal
@@ -27,15 +28,10 @@ here c = ap (map.get c.self.inside.spaces) (sym c.number.ensures.value) ∙ sym 
 abbrev may : (c : After-unwrap-cells) → MayPut (before c) c.args.mapping.now c.args.first
 may c = subst (λ st. MayPut st c.args.mapping.now c.args.first) (sym c.self.view_is) c.requires
 
-pub put_in-requires-clause-frames : goal.put_in-requires-clause-frames
-put_in-requires-clause-frames c =
-    let at = (goal.at.put_in-requires-clause-frames c).After-unwrap-cells in
-    frames_here (before at) _ _ _ c.self.invariant c.args.mapping.now.space c.unwrap-cells.result.now (here at)
-
-pub put_in-requires-clause-slots : goal.put_in-requires-clause-slots
-put_in-requires-clause-slots c =
-    let at = (goal.at.put_in-requires-clause-slots c).After-unwrap-cells in
-    slots_here (before at) _ _ _ c.self.invariant c.args.mapping.now.space c.unwrap-cells.result.now (here at)
+pub put_in-requires-clause-counted : goal.put_in-requires-clause-counted
+put_in-requires-clause-counted c =
+    let at = (goal.at.put_in-requires-clause-counted c).After-unwrap-cells in
+    counted_here (before at) c.self.inside.counts c.self.inside.fronts c.self.invariant c.args.mapping.now.space c.unwrap-cells.result.now (here at)
 
 -- the spaces afterwards
 abbrev lent : (c : After-put_in) → c.get_mut.follows.lender c.put_in.new.cells ≡ map.insert c.self.inside.spaces c.args.mapping.now.space c.put_in.new.cells
@@ -45,19 +41,19 @@ pub invariant_of-self : goal.invariant_of-self
 invariant_of-self c =
     let at = goal.at.invariant_of-self c in
     let st = before at.After-unwrap-cells in
-    subst (λ spaces. IsSound (record st { spaces = spaces; tables = c.put_in.new.tables }) c.put_in.new.frames c.put_in.new.slots c.self.inside.fronts) (sym (lent at.After-put_in))
-    (go st c.args.mapping.now c.args.first (may at.After-unwrap-cells) c.unwrap-cells.result.now c.put_in.new.cells (here at.After-unwrap-cells) c.put_in.new.tables c.self.inside.frames c.put_in.new.frames c.self.inside.slots c.put_in.new.slots c.self.inside.fronts c.self.invariant
-    c.put_in.result c.put_in.ensures.cells c.put_in.ensures.tables c.put_in.ensures.frames c.put_in.ensures.slots c.put_in.ensures.kept c.put_in.ensures.tables_stay)
+    subst (λ spaces. IsSound (record st { spaces = spaces; tables = c.put_in.new.tables }) c.put_in.new.counts.frames c.put_in.new.counts.slots c.self.inside.fronts) (sym (lent at.After-put_in))
+    (go st c.args.mapping.now c.args.first (may at.After-unwrap-cells) c.unwrap-cells.result.now c.put_in.new.cells (here at.After-unwrap-cells) c.put_in.new.tables c.self.inside.counts c.put_in.new.counts c.self.inside.fronts c.self.invariant
+    c.put_in.result c.put_in.ensures.cells c.put_in.ensures.tables c.put_in.ensures.counts c.put_in.ensures.kept c.put_in.ensures.tables_stay)
   where
-    go : (st : State) (m : _) (first : ℕ) → MayPut st m first → (cells cells' : AddressSpace) → map.get st.spaces m.space ≡ Some cells → (tables' : Tables) (frames frames' slots slots' fronts : List ℕ) → IsSound st frames slots fronts →
-        (r : Result (Unit {0}) AllocError) → OnOk r (cells' ≡ filled m first cells) → OnOk r (tables' ≡ tables_with m first st.tables) → OnOk r (Follows None frame_of frames frames' cells cells') → OnOk r (Follows None slot_of slots slots' cells cells') →
-        OnErr r (Keeps cells cells' frames frames' slots slots') → OnErr r (tables' ≡ st.tables) → IsSound (record st { spaces = map.insert st.spaces m.space cells'; tables = tables' }) frames' slots' fronts
-    go st m first may cells cells' here tables' frames frames' slots slots' fronts sound (Ok r) a b f g k t =
-        put_stays_sound st m first may cells cells' tables' frames slots fronts frames' slots' here a b sound f g
+    go : (st : State) (m : _) (first : ℕ) → MayPut st m first → (cells cells' : AddressSpace) → map.get st.spaces m.space ≡ Some cells → (tables' : Tables) (counts counts' : Counts) (fronts : List ℕ) → IsSound st counts.frames counts.slots fronts →
+        (r : Result (Unit {0}) AllocError) → OnOk r (cells' ≡ filled m first cells) → OnOk r (tables' ≡ tables_with m first st.tables) → OnOk r (Follow counts counts' cells cells') →
+        OnErr r (Keeps cells cells' counts counts') → OnErr r (tables' ≡ st.tables) → IsSound (record st { spaces = map.insert st.spaces m.space cells'; tables = tables' }) counts'.frames counts'.slots fronts
+    go st m first may cells cells' here tables' counts counts' fronts sound (Ok r) a b f k t =
+        put_stays_sound st m first may cells cells' tables' counts.frames counts.slots fronts counts'.frames counts'.slots here a b sound f.frames f.slots
         (full_stays st m.space cells cells' tables' fronts here (λ q there. subst (λ n. IsSome (map.get n q)) (sym a) (change_stays cells first _ _ (λ _ _. refl) q there)) sound.full)
-    go st m first may cells cells' here tables' frames frames' slots slots' fronts sound (Err e) a b f g k t =
-        let P : State × List ℕ × List ℕ → Type 0 = λ x. IsSound x.0 x.1 x.2 fronts in
-        subst P (λ i. (record st { spaces = sym (ap (map.insert st.spaces m.space) k.same_cells ∙ put_back st.spaces m.space cells here) i; tables = sym t i }, sym k.same_frames i, sym k.same_slots i)) sound
+    go st m first may cells cells' here tables' counts counts' fronts sound (Err e) a b f k t =
+        let P : State × Counts → Type 0 = λ x. IsSound x.0 x.1.frames x.1.slots fronts in
+        subst P (λ i. (record st { spaces = sym (ap (map.insert st.spaces m.space) k.same_cells ∙ put_back st.spaces m.space cells here) i; tables = sym t i }, sym k.same_counts i)) sound
 
 pub returns-clause-ok : goal.returns-clause-ok
 returns-clause-ok c =

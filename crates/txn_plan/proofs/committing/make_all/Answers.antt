@@ -1,0 +1,14 @@
+use Rattle.std.proofs.Common.{◌≡◌, sym, ap, subst, ◌∙◌}
+use Rattle.std.specs.List.{All}
+use Rattle.page_runs.specs.Changes.{IsChange}
+use Rattle.space_cells.specs.Changes.{cells_after_all}
+use Rattle.plain_spaces.proofs.Variants.{ok_from}
+use Rattle.txn_plan.proofs.Changed.{after_all, all_changes}
+use Rattle.txn_plan.proofs.committing.make_all.Goals as goal
+
+pub apply-requires-clause-changes : goal.apply-requires-clause-changes
+apply-requires-clause-changes c = subst (λ l. All IsChange l) (sym (c.deref.ensures.value ∙ c.in_ok-changes.ensures)) (all_changes c.args.ops.now c.requires.span c.requires.index)
+
+pub returns-clause-cells : goal.returns-clause-cells
+returns-clause-cells c =
+    ok_from c.apply.result (λ e. e ∙ ap (cells_after_all c.args.cells.now) (c.deref.ensures.value ∙ c.in_ok-changes.ensures) ∙ after_all c.args.ops.now c.args.cells.now) c.apply.ensures.cells
