@@ -3,7 +3,8 @@ use Rattle.std.proofs.Common.{◌≡◌, ℕ, ◌+◌, ◌<◌, ◌≤◌, Bool,
 use mathlib.Core.Logic.{◌⊎◌, inl, inr}
 use Rattle.std.specs.Prelude.{Option, Some, None, Result, Ok, Err, IfOk, IfErr, OnErr, IfSome, IsSome, is_some, nat_lt, slice_index}
 use Rattle.std.specs.Option.{unwrap_or, option_map, option_or}
-use Rattle.std.proofs.lemmas.Bool.{lt-ltb, le-ltb, ltb-false, cond-true, cond-false}
+use Rattle.std.proofs.lemmas.Bool.{lt-ltb, le-ltb, ltb-false, ne_eqb, cond-true, cond-false}
+use Rattle.std.specs.Ordering.{nat_cmp}
 use Rattle.std.specs.Cmp.{nat_cmp_total, unsigned_tied, nat_eq_equiv}
 use Rattle.std.specs.FinMap as fin
 use Rattle.std.specs.FinMap.{get, get-insert}
@@ -14,7 +15,8 @@ use Rattle.corten_base.specs.declared.calls.Reply.TheVariants as reply
 use Rattle.page_map.specs.Cell.{frame_of, slot_of}
 use Rattle.page_map.specs.State.{State, AddressSpace, IsConsistent, linked, space_at, is_present, frame_owners, unused_frames}
 use Rattle.page_map.specs.Takes.{Grant, grant}
-use Rattle.page_map.specs.Access.{Access, first_page, page_count, outside_user_pages, refused_access, wanting_frames, after_access, loaded}
+use Rattle.page_map.specs.declared.cell.Cell.{Cell}
+use Rattle.page_map.specs.Access.{Access, first_page, page_count, outside_user_pages, refused_access, refused_at, wanting_frames, after_access, loaded}
 use Rattle.page_map.specs.Effect.{state_after, answer}
 use Rattle.page_map.specs.Step.{step, refusal, refused_unless}
 use Rattle.page_map.proofs.Steps.{accepted, refused, not_none}
@@ -23,12 +25,14 @@ use Rattle.plain_counts.specs.declared.counts.Counts.{Counts}
 use Rattle.plain_counts.specs.Counts.{AreCounted, IsCounted}
 use Rattle.plain_counts.specs.Owners.{unused_of}
 use Rattle.mm_model.specs.Plain.{IsSound, owner_counts}
-use Rattle.plain_spaces.specs.Reach.{brought, making, wanting, IsResident, IsWhole, Makes}
+use Rattle.plain_spaces.specs.Reach.{beyond, brought, last_page, wanting, IsResident, IsWhole, Makes}
 use Rattle.plain_spaces.specs.Wants.{refusal_of, IsPlan}
 use Rattle.plain_spaces.specs.declared.plan.Plan.{Plan}
 use Rattle.plain_spaces.specs.declared.access.Stop.{Stop}
 use Rattle.plain_spaces.specs.declared.access.Stop.TheVariants.{Refused, NoMemory}
 use Rattle.mm_model.specs.Accesses.{IsAccess, IsPlanned, MayAccess, Refuses, Accepts, after_making, answered, frames_lack, refused_in}
+use Rattle.plain_spaces.proofs.Made.{brought_after, brought_resident, loaded_brought}
+use Rattle.plain_spaces.proofs.Plans.{refused_either}
 use Rattle.mm_model.proofs.Full.{still_full, cells_stay, change_stays}
 use Rattle.mm_model.proofs.Carried.{is_counted_in, counts_follow, cell_here}
 use Rattle.mm_model.proofs.AccessSteps.{refused_outside, decided_in, after_is, cells_here, same_wanting, same_unused}
@@ -41,11 +45,11 @@ module _ (st : State) (c : Call) (space : ℕ) (a : Access) (is : IsAccess st c 
     pub refuses_in : (r : Reply) → refused_in st space a ≡ Some r → Refuses st c r
     refuses_in r e = λ thread limbo legal. decided_in st c space a is thread limbo legal user ∙ e
 
-    pub accepts : linked st ≤ st.limits.tables → refused_in st space a ≡ None → (st' : State) → st' ≡ after_making st space a → (r : Reply) → ((thread : ℕ) → r ≡ answer st thread c) → Accepts st st' c r
-    accepts fits none st' made r says = record {
+    pub accepts : refused_in st space a ≡ None → (st' : State) → st' ≡ after_making st space a → (r : Reply) → ((thread : ℕ) → r ≡ answer st thread c) → Accepts st st' c r
+    accepts none st' made r says = record {
       accepted = λ thread limbo legal. decided_in st c space a is thread limbo legal user ∙ none;
       reply = says;
-      after = λ thread. made ∙ after_is st c space a is thread 0 (omega (arith, fits));
+      after = λ thread. made ∙ after_is st c space a is thread;
     }
 
 -- the space is absent
@@ -138,7 +142,7 @@ module _ (st : State) (counts : Counts) (fronts : List ℕ) (sound : IsSound st 
 
     pub stays_sound : IsSound next counts'.frames counts'.slots fronts
     stays_sound = record {
-      state = subst IsConsistent (ap (λ p. p.1) (accepted st 0 c 0 (decided_in st c space a is 0 0 no_limbo user ∙ none)) ∙ sym (made_is ∙ after_is st c space a is 0 0 no_limbo)) (step_keeps st 0 0 c (omega arith) sound.state);
+      state = subst IsConsistent (ap (λ p. p.1) (accepted st 0 c 0 (decided_in st c space a is 0 0 no_limbo user ∙ none)) ∙ sym (made_is ∙ after_is st c space a is 0)) (step_keeps st 0 0 c (omega arith) sound.state);
       limits = sound.limits;
       frame_counts = counts_follow frame_of st st.limits.frames counts.frames sound.frame_counts sound.state.frames space cells here counts'.frames cells' next refl m.counts_follow.frames;
       slot_counts = counts_follow slot_of st st.limits.swap counts.slots sound.slot_counts sound.state.slots space cells here counts'.slots cells' next refl m.counts_follow.slots;
@@ -146,17 +150,54 @@ module _ (st : State) (counts : Counts) (fronts : List ℕ) (sound : IsSound st 
     }
 
 -- the cells that an access left
+found : (m : fin.FinMap nat_cmp AddressSpace) (k : ℕ) (x : AddressSpace) → get (fin.insert m k x) k ≡ Some x
+found m k x = get-insert nat_cmp_total m k x k ∙ ap (λ b. cond b (Some x) (get m k)) (unsigned_tied k k ∙ nat_eq_equiv.refl k)
+
 pub space_after : (st : State) (space : ℕ) (a : Access) → space_at (after_making st space a) space ≡ after_access st.files (grant (wanting_frames st (space_at st space) a) (unused_frames st)) a (space_at st space)
-space_after st space a = ap (λ (o : Option AddressSpace). unwrap_or o fin.empty) (found st.spaces space _)
-  where
-    found : (m : fin.FinMap _ AddressSpace) (k : ℕ) (x : AddressSpace) → get (fin.insert m k x) k ≡ Some x
-    found m k x = get-insert nat_cmp_total m k x k ∙ ap (λ b. cond b (Some x) (get m k)) (unsigned_tied k k ∙ nat_eq_equiv.refl k)
+space_after st space a = ap (λ (o : Option AddressSpace). unwrap_or o fin.empty)
+    (found st.spaces space (after_access st.files (grant (wanting_frames st (space_at st space) a) (unused_frames st)) a (space_at st space)))
 
 pub present_after : (st : State) (space : ℕ) (a : Access) → is_present (after_making st space a) space ≡ true
-present_after st space a = ap is_some (found st.spaces space _)
-  where
-    found : (m : fin.FinMap _ AddressSpace) (k : ℕ) (x : AddressSpace) → get (fin.insert m k x) k ≡ Some x
-    found m k x = get-insert nat_cmp_total m k x k ∙ ap (λ b. cond b (Some x) (get m k)) (unsigned_tied k k ∙ nat_eq_equiv.refl k)
+present_after st space a = ap (λ (o : Option AddressSpace). is_some o)
+    (found st.spaces space (after_access st.files (grant (wanting_frames st (space_at st space) a) (unused_frames st)) a (space_at st space)))
+
+-- a page that doesn't refuse is there
+there_at : (files : List (List ℕ)) (write : Bool) (page : ℕ) (o : Option Cell) → refused_at files write page o ≡ None → IsSome o
+there_at files write page None e = absurd (not_none e)
+there_at files write page (Some c) e = refl
+
+both_none : {A : Type 0} (o p : Option A) → option_or o p ≡ None → (o ≡ None) × (p ≡ None)
+both_none None p e = (refl, e)
+both_none (Some x) p e = absurd (not_none e)
+
+-- a space without the access's pages, or with too few frames, refuses
+pages_allow : (st : State) (space : ℕ) (a : Access) → refused_in st space a ≡ None → refused_access st.files (space_at st space) a ≡ None
+pages_allow st space a e = (both_none _ _ (both_none _ _ e).1).0
+
+-- the pages of an access that stores nothing have frames, and the bytes that they had
+module _ (st : State) (space : ℕ) (a : Access) (some : 0 < a.len) (few : a.len ≤ 4096) (none : refused_in st space a ≡ None) (nothing : a.stored ≡ []) where
+  abbrev cells : AddressSpace
+  cells = space_at st space
+
+  abbrev grants : Grant
+  grants = grant (wanting_frames st (space_at st space) a) (unused_frames st)
+
+  cells_after : space_at (after_making st space a) space ≡ brought st.files grants a cells
+  cells_after = space_after st space a ∙ sym (brought_after st.files cells a grants nothing)
+
+  apart : (refused_at st.files a.write (first_page a) (get cells (first_page a)) ≡ None) × (beyond a None (refused_at st.files a.write (last_page a) (get cells (last_page a))) ≡ None)
+  apart = both_none _ _ (sym (refused_either st.files cells (λ _. 0) a some few) ∙ pages_allow st space a none)
+
+  last_there : (last_page a ≡ first_page a → ⊥) → IsSome (get cells (last_page a))
+  last_there f = there_at st.files a.write (last_page a) (get cells (last_page a))
+      (sym (cond-false _ None (refused_at st.files a.write (last_page a) (get cells (last_page a))) (ne_eqb (last_page a) (first_page a) f)) ∙ apart.1)
+
+  pub access_resident : IsWhole st.files cells → IsResident (space_at (after_making st space a) space) a
+  access_resident whole = subst (λ m. IsResident m a) (sym cells_after)
+      (brought_resident st.files cells a grants some few whole (there_at st.files a.write (first_page a) (get cells (first_page a)) apart.0) last_there)
+
+  pub loaded_after : loaded st.files (space_at (after_making st space a) space) a ≡ loaded st.files cells a
+  loaded_after = ap (λ m. loaded st.files m a) cells_after ∙ loaded_brought st.files cells a grants
 
 -- the step of a call, from what is known of its outcome
 pub step_from : (st st' : State) (c : Call) (outcome : Result Reply Stop) → IfOk outcome (Accepts st st' c) → IfErr outcome (λ stop. IfSome (refusal_of stop) (Refuses st c)) → OnErr outcome (st' ≡ st) →

@@ -157,17 +157,17 @@ module _ (st : State) (c : Call) (space : ℕ) (a : Access) (is : IsAccess st c 
   pub decided_in : outside_user_pages 4 a ≡ None → refusal st thread c limbo ≡ refused_in st space a
   decided_in e = refusal_is ∙ ap (λ o. option_or o (refused_in st space a)) e
 
-  -- and what an accepted call leaves
-  pub after_is : after_making st space a ≡ state_after st thread c
-  unfolding state_after
-  after_is = sym (λ i. record st {
-    spaces = (is.spaces_are thread ∙ ap (λ ks. fin.insert st.spaces space (after_access st.files (grant ks (unused_frames st)) a (space_at st space))) is.frames_are) i;
-    tables = same_tables (is_given_up st c) is.none_left (wanted_tables st thread c) (is.no_wanted thread) st.tables i;
-  })
+-- what an accepted call leaves
+pub after_is : (st : State) (c : Call) (space : ℕ) (a : Access) → IsAccess st c space a → (thread : ℕ) → after_making st space a ≡ state_after st thread c
+unfolding state_after
+after_is st c space a is thread = sym (λ i. record st {
+  spaces = (is.spaces_are thread ∙ ap (λ ks. fin.insert st.spaces space (after_access st.files (grant ks (unused_frames st)) a (space_at st space))) is.frames_are) i;
+  tables = same_tables (is_given_up st c) is.none_left (wanted_tables st thread c) (is.no_wanted thread) st.tables i;
+})
 
-pub load_answer : (st : State) (thread space at len : ℕ) (cells : AddressSpace) → get st.spaces space ≡ Some cells → reply.Bytes (loaded st.files cells (reaching at len false)) ≡ answer st thread (call.Load space at len)
+pub load_answer : (st : State) (thread space at len : ℕ) → reply.Bytes (loaded st.files (space_at st space) (reaching at len false)) ≡ answer st thread (call.Load space at len)
 unfolding answer
-load_answer st thread space at len cells here = ap (λ o. reply.Bytes (loaded st.files (unwrap_or o fin.empty) (reaching at len false))) (sym here)
+load_answer st thread space at len = refl
 
 pub store_answer : (st : State) (thread space at : ℕ) (bytes : List ℕ) → reply.Ok ≡ answer st thread (call.Store space at bytes)
 unfolding answer

@@ -4,7 +4,7 @@ ghost use Rattle.corten_base.specs.declared.calls.Call.TheVariants as call;
 ghost use Rattle.page_map.specs.Access.{loaded, outside_user_pages};
 ghost use Rattle.page_map.specs.State.{is_present, linked, space_at};
 ghost use Rattle.page_map.specs.Step.{step};
-ghost use Rattle.plain_spaces.specs.Reach.{making, IsResident};
+ghost use Rattle.plain_spaces.specs.Reach.{making, IsResident, IsWhole};
 ghost use Rattle.plain_spaces.specs.Wants.{refusal_of};
 ghost use Rattle.mm_model.specs.Accesses.{Refuses, Accepts, MayAccess, after_making, answered, refused_in, IsCalled, IsPlanned};
 
@@ -32,6 +32,7 @@ impl Plain {
         ensures access { IfOk result (λ plan. plan.access ≡ access) }
         ensures planned { IfOk result (IsPlanned self.now space) }
         ensures ok { IfOk result (λ _. refused_in self.now space access ≡ None) }
+        ensures whole { IfOk result (λ _. IsWhole self.now.files (space_at self.now space)) }
         ensures refused { IfErr result (λ stop. IfSome (refusal_of stop) (λ reply. refused_in self.now space access ≡ Some reply)) }
     {
         let spaces = &self.spaces;
@@ -70,6 +71,7 @@ impl Plain {
         requires user { outside_user_pages 4 access ≡ None }
         requires stored { 0 < length stored.now → length stored.now ≡ access.len }
         ensures ok { OnOk result (refused_in self.old space access ≡ None) }
+        ensures whole { OnOk result (IsWhole self.old.files (space_at self.old space)) }
         ensures made { OnOk result (self.new ≡ after_making self.old space (making access stored.now)) }
         ensures refused { IfErr result (λ stop. IfSome (refusal_of stop) (λ reply. refused_in self.old space access ≡ Some reply)) }
         ensures kept { OnErr result (self.new ≡ self.old) }

@@ -28,9 +28,6 @@ returns-in_default-least_absent-clause-ok c = λ thread.
     (ap (λ o. refused_unless (is_some o) reply.NoSpace) (here (goal.at.returns-in_default-least_absent-clause-ok c).In-Some))
     (ap least_absent (sym c.self.view_is) ∙ sym c.least_absent.ensures ∙ c.in_default-least_absent.is)
 
-pub copy-requires : goal.copy-requires
-copy-requires c = cells_low c.args.self.now c.args.space c.in-Some.parent.now (subst IsConsistent c.self.view_is c.self.invariant.state) (here (goal.at.copy-requires c).In-Some)
-
 pub make-requires-clause-may : goal.make-requires-clause-may
 make-requires-clause-may c =
     subst (λ m. MayMake c.args.self.now c.in-Some-least_absent.new m c.args.limbo) (sym c.in_ok-cells.ensures)

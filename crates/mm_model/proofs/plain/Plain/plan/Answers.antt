@@ -1,14 +1,13 @@
 use Rattle.std.proofs.Common.{◌≡◌, ℕ, Some, length, sym, ap, subst, ◌∙◌}
-use Rattle.std.specs.Prelude.{slice_index}
-use Rattle.std.specs.Option.{option_copied}
+use Rattle.std.specs.Prelude.{Option, slice_index}
+use Rattle.std.specs.Option.{option_copied, unwrap_or}
 use Rattle.std.specs.FinMap as map
 use Rattle.std.proofs.lemmas.Result.{err_from_is_err_and}
 use Rattle.std.proofs.lemmas.Option.{IfSome_then}
-use Rattle.page_map.specs.State.{State}
-use Rattle.page_map.specs.Access.{Access, refused_access}
-use Rattle.plain_spaces.specs.Reach.{wanting}
+use Rattle.page_map.specs.State.{State, AddressSpace, space_at}
+use Rattle.plain_spaces.specs.Reach.{wanting, IsWhole}
 use Rattle.mm_model.specs.Accesses.{IsPlanned, refused_in}
-use Rattle.mm_model.proofs.AccessCalls.{refused_absent, frames_here, refused_pages, refused_frames, refused_none, is_planned}
+use Rattle.mm_model.proofs.AccessCalls.{refused_absent, whole_here, frames_here, refused_pages, refused_frames, refused_none, is_planned}
 use Rattle.mm_model.proofs.plain.Plain.plan.Goals as goal
 use Rattle.mm_model.proofs.plain.Plain.plan.Goals.{In-Some, After-frames-need}
 
@@ -60,3 +59,9 @@ pub returns-clause-planned : goal.returns-clause-planned
 returns-clause-planned c =
     let at = (goal.at.returns-clause-planned c).In-Some in
     subst (λ st. IsPlanned st c.args.space c.in_ok-plan.plan) c.self.view_is (is_planned (now at) _ _ _ c.self.invariant c.args.space c.in-Some.cells.now (here at) c.in_ok-plan.plan c.in_ok-plan.ensures.plan)
+
+pub returns-clause-whole : goal.returns-clause-whole
+returns-clause-whole c =
+    let at = (goal.at.returns-clause-whole c).In-Some in
+    subst (λ st. IsWhole st.files (space_at st c.args.space)) c.self.view_is
+    (subst (IsWhole c.self.inside.shelf) (sym (ap (λ (o : Option AddressSpace). unwrap_or o map.empty) (here at))) (whole_here (now at) _ _ _ c.self.invariant c.args.space c.in-Some.cells.now (here at)))

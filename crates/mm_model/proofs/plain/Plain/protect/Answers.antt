@@ -91,9 +91,9 @@ lent_back c e =
     subst (λ o. OnSome o (c.get_mut.follows.lender c.protect.new.self ≡ map.insert c.self.inside.spaces c.number.result c.protect.new.self)) c.in-Some-get_mut.is (c.get_mut.follows.holds c.protect.new.self)
     ∙ ap (map.insert c.self.inside.spaces c.number.result) e ∙ put_back c.self.inside.spaces c.number.result c.in-Some-get_mut.cells.now (sym c.in-Some-get_mut.ensures.value)
 
-pub invariant_of-self-2 : goal.invariant_of-self-2
-invariant_of-self-2 c =
-    let at = goal.at.invariant_of-self-2 c in
+pub invariant_of-self-in_err-protect : goal.invariant_of-self-in_err-protect
+invariant_of-self-in_err-protect c =
+    let at = goal.at.invariant_of-self-in_err-protect c in
     subst (λ spaces. IsSound (record (before at.After-get_mut) { spaces = spaces }) c.self.inside.counts.frames c.self.inside.counts.slots c.self.inside.fronts) (sym (lent_back at.After-protect c.in_err-protect.ensures.err)) c.self.invariant
 
 on_err : {A E P : Type 0} (r : Result A E) → P → OnErr r P
@@ -117,7 +117,10 @@ count_here c = c.count-count.ensures.value ∙ ap (λ r. r.count) c.in-Some.ensu
 
 cells_are : (c : In_ok-protect) → c.protect.new.self ≡ after_op (op.Protect c.args.at c.args.len c.args.perm) c.in-Some-get_mut.cells.now
 unfolding after_op
-cells_are c = c.in_ok-protect.ensures.ok ∙ (λ i. change c.in-Some-get_mut.cells.now (first_here c i) (count_here c i) (λ _. option_map (with_perm c.args.perm)))
+cells_are c =
+    let first : c.first-first.result ≡ c.args.at / 4096 = c.first-first.ensures.value ∙ ap (λ r. r.first) c.in-Some.ensures.value in
+    let count : c.count-count.result ≡ pages_of c.args.len = c.count-count.ensures.value ∙ ap (λ r. r.count) c.in-Some.ensures.value in
+    c.in_ok-protect.ensures.ok ∙ (λ i. change c.in-Some-get_mut.cells.now (first i) (count i) (λ _. option_map (with_perm c.args.perm)))
 
 allowed : (c : After-protect) → refused_op (op.Protect c.args.at c.args.len c.args.perm) c.in-Some-get_mut.cells.now ≡ None
 allowed c = ap (option_map (λ page. why.Hole (4096 * page)))
@@ -131,9 +134,9 @@ fits st space at len limbo perm legal = omega (arith, no_need [] refl st.tables,
 tables_are : (tables : Tables) → tables ≡ changed_tables (λ _. false) [] tables
 tables_are tables = sym (same_tables (λ _. false) (λ _. refl) [] refl tables)
 
-pub invariant_of-self-3 : goal.invariant_of-self-3
-invariant_of-self-3 c =
-    let at = goal.at.invariant_of-self-3 c in
+pub invariant_of-self-2 : goal.invariant_of-self-2
+invariant_of-self-2 c =
+    let at = goal.at.invariant_of-self-2 c in
     let st = before at.After-get_mut in
     let n = c.number.result in
     let cells = c.in-Some-get_mut.cells.now in

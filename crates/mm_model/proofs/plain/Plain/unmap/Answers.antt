@@ -52,9 +52,9 @@ lent_back c e =
     subst (λ o. OnSome o (c.get_mut.follows.lender c.unmap_pages.new.cells ≡ map.insert c.self.inside.spaces c.number-number.result c.unmap_pages.new.cells)) c.in-Some-get_mut.is (c.get_mut.follows.holds c.unmap_pages.new.cells)
     ∙ ap (map.insert c.self.inside.spaces c.number-number.result) e ∙ put_back c.self.inside.spaces c.number-number.result c.in-Some-get_mut.cells.now (sym c.in-Some-get_mut.ensures.value)
 
-pub invariant_of-self-2 : goal.invariant_of-self-2
-invariant_of-self-2 c =
-    let at = goal.at.invariant_of-self-2 c in
+pub invariant_of-self-in_err-unmap_pages : goal.invariant_of-self-in_err-unmap_pages
+invariant_of-self-in_err-unmap_pages c =
+    let at = goal.at.invariant_of-self-in_err-unmap_pages c in
     let st = before at.After-get_mut in
     let kept = c.in_err-unmap_pages.ensures.kept in
     let P : State × Counts → Type 0 = λ x. IsSound x.0 x.1.frames x.1.slots c.self.inside.fronts in
@@ -93,9 +93,9 @@ tables_are c =
 fits : (st : State) (space at len limbo : ℕ) → linked st + limbo ≤ st.limits.tables → linked st + missing st (call.Unmap space at len) space (op.Unmap at len) _ _ _ (unmap_op st space at len) + limbo ≤ st.limits.tables
 fits st space at len limbo legal = omega (arith, no_need [] refl st.tables, legal)
 
-pub invariant_of-self-3 : goal.invariant_of-self-3
-invariant_of-self-3 c =
-    let at = goal.at.invariant_of-self-3 c in
+pub invariant_of-self-2 : goal.invariant_of-self-2
+invariant_of-self-2 c =
+    let at = goal.at.invariant_of-self-2 c in
     let st = before at.After-get_mut in
     let n = c.number-number.result in
     let cells = c.in-Some-get_mut.cells.now in
