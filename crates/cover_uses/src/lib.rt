@@ -1,4 +1,4 @@
-//! Callers of the subtree lock that rely on its public clauses alone, over a tree of four tables.
+//! Callers of the subtree lock that rely on its public clauses alone, over small trees of four and of five levels.
 #![tactic(auto)]
 
 #[cfg(test)]
