@@ -25,11 +25,18 @@ module _ {B : Type 0} (answer : ℕ → Option B) where
       ◌≡◌ {A = Option B} (elim o [ Some b ↦ Some b | None ↦ earliest (first + 1) n answer ]) (Some b) → (m : ℕ) × IsFirst first (suc n) b m
   step first n b rest (Some c) is e = (first, (omega arith, omega arith, is ∙ e, λ q low high. absurd (omega (arith, low, high))))
   step first n b rest None is e =
-      let found = rest e in
-      (found.0, (omega (arith, found.1.0), omega (arith, found.1.1), found.1.2, λ q low high. elim (cases_eq q first) [
-        | inl same ↦ ap answer same ∙ is
-        | inr other ↦ found.1.3 q (later q first low other) high
-      ]))
+      let found = rest e in (
+        found.0,
+        (
+          omega (arith, found.1.0),
+          omega (arith, found.1.1),
+          found.1.2,
+          λ q low high. elim (cases_eq q first) [
+            | inl same ↦ ap answer same ∙ is
+            | inr other ↦ found.1.3 q (later q first low other) high
+          ],
+        ),
+      )
     where
       later : (q first : ℕ) → first ≤ q → (q ≡ first → ⊥) → first + 1 ≤ q
       later q first low other = omega arith

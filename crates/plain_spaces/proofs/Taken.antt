@@ -212,9 +212,14 @@ module _ (files : List (List ℕ)) (cells : AddressSpace) (owners : ℕ → ℕ)
       go (inl e) =
           let nothing = far_nothing files cells owners a some few near far first last far_is e in
           let idle : last ≡ None = no_frame last (far_takes ∙ ap is_some nothing) in
-          let at = settled_same files cells owners a some few near far first last far_is e ∙ ap (option_map (given files first)) first_at.1.0 in
-          (given files first first_at.0, (at, subst (λ w. Balances files w last (given files first first_at.0)) (sym nothing)
-          (subst (λ o. Balances files None o (given files first first_at.0)) (sym idle) (balanced_none files (given files first first_at.0) refl))))
+          let at = settled_same files cells owners a some few near far first last far_is e ∙ ap (option_map (given files first)) first_at.1.0 in (
+            given files first first_at.0,
+            (
+              at,
+              subst (λ w. Balances files w last (given files first first_at.0)) (sym nothing)
+                  (subst (λ o. Balances files None o (given files first first_at.0)) (sym idle) (balanced_none files (given files first first_at.0) refl)),
+            ),
+          )
       go (inr f) =
           let same = settled_next files cells owners a some few near far first last far_is f in
           wanted (last_page a) middle far last (ap (option_map (want_of files owners a.write)) same ∙ far_wanted files cells owners a some few near far first last far_is f) far_takes
@@ -274,7 +279,10 @@ module _ (files : List (List ℕ)) (cells : AddressSpace) (owners : ℕ → ℕ)
                 arith,
                 frames_after files cells (first_page a) near first first_at.0 first_at.1.0 first_at.1.1 n,
                 frames_after files middle (last_page a) far last last_at.0 last_at.1.0 last_at.1.1 n,
-                one.counts n, two.counts n, s.frames n, t.frames n,
+                one.counts n,
+                two.counts n,
+                s.frames n,
+                t.frames n,
               );
             };
             slots = record {
@@ -283,7 +291,8 @@ module _ (files : List (List ℕ)) (cells : AddressSpace) (owners : ℕ → ℕ)
                 arith,
                 slots_after files cells (first_page a) near first first_at.0 first_at.1.0 first_at.1.1 n,
                 slots_after files middle (last_page a) far last last_at.0 last_at.1.0 last_at.1.1 n,
-                s.slots n, t.slots n,
+                s.slots n,
+                t.slots n,
               );
             };
           }

@@ -40,8 +40,12 @@ pages-need-requires-clause-counted c =
 
 pub overflow_cast-need : goal.overflow_cast-need
 overflow_cast-need c =
-    omega (arith, few_move (before (goal.at.overflow_cast-need c).After-get_mut) c.self.inside.counts c.self.inside.fronts c.self.invariant c.number.result c.in-Some-get_mut.cells.now (sym c.in-Some-get_mut.ensures.value) c.args.way
-    c.first-first.result c.count-count.result, c.pages-need.ensures)
+    omega (
+      arith,
+      few_move (before (goal.at.overflow_cast-need c).After-get_mut) c.self.inside.counts c.self.inside.fronts c.self.invariant c.number.result c.in-Some-get_mut.cells.now (sym c.in-Some-get_mut.ensures.value) c.args.way
+          c.first-first.result c.count-count.result,
+      c.pages-need.ensures,
+    )
 
 -- the range, in the words of the definitions
 abbrev first_is : (c : After-pages-need) → c.first-first.result ≡ c.args.at / 4096

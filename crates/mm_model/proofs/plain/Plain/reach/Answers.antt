@@ -58,7 +58,6 @@ make-requires-clause-counted c =
 abbrev lent : (c : After-make) → c.get_mut.follows.lender c.make.new.cells ≡ map.insert c.self.inside.spaces c.args.space c.make.new.cells
 lent c = some_borrow c.get_mut.result c.unwrap-cells.result c.unwrap-cells.ensures (c.get_mut.follows.holds c.make.new.cells)
 
-
 pub invariant_of-self : goal.invariant_of-self
 invariant_of-self c =
     let at = goal.at.invariant_of-self c in

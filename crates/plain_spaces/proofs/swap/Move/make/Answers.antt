@@ -25,7 +25,7 @@ enough c = omega (
   arith,
   c.loop-page.invariant.enough,
   ap length (keys_past (passes c.args.self c.loop-page.counts) c.loop-page.cells c.loop-page.next c.in-Some.page (c.args.first + c.args.count) (at c).low (omega (arith, (at c).high))
-  (λ q a b. quiet_at c.args.self c.loop-page.counts c.loop-page.cells q ((at c).before q a b))),
+      (λ q a b. quiet_at c.args.self c.loop-page.counts c.loop-page.cells q ((at c).before q a b))),
 )
 
 pub loop-page-init : goal.loop-page-init
