@@ -1,12 +1,12 @@
 -- Bytes as pairs of hexadecimal digits: joined lists, and digits in pairs.
 use Rattle.std.proofs.Common.{◌≡◌, ℕ, zero, suc, ◌+◌, ◌*◌, ◌/◌, ◌%◌, ◌<◌, Bool, true, false, ◌&&◌, List, [], ◌∷◌, ◌++◌, map, take, length, get_or, refl, sym, ap, ◌∙◌, arith}
 use Rattle.std.specs.Fmt.{digit_glyph}
-use Rattle.std.specs.List.{All, list_all}
+use Rattle.std.specs.List.{All, flat_map, list_all}
 use Rattle.std.specs.Simd.{first_chunks}
 use Rattle.std.proofs.lemmas.Bool.Decides.{nat_tests}
 use Rattle.std.proofs.lemmas.List.{append_assoc, take_more}
 use Rattle.std.proofs.lemmas.List.Elements.{All-nil, All-cons, All-head, All-tail}
-use Rattle.text_words.specs.Digits.{is_digit, value_of, pair_value}
+use Rattle.text_words.specs.Digits.{is_digit, value_of, pair_value, digit_pair}
 use Rattle.text_words.specs.Spelling.{hex}
 
 -- the digits of a byte
@@ -16,32 +16,11 @@ high_of byte = digit_glyph false (byte / 16)
 abbrev pub low_of : ℕ → ℕ
 low_of byte = digit_glyph false (byte % 16)
 
-pub hex-nil : hex [] ≡ []
+-- the pairs of digits of bytes, one behind the other
+pub hex_of_pairs : (bytes : List ℕ) → flat_map (λ pair. pair) (map digit_pair bytes) ≡ hex bytes
 unfolding hex
-hex-nil = refl
-
-pub hex-cons : (byte : ℕ) (bytes : List ℕ) → hex (byte ∷ bytes) ≡ high_of byte ∷ low_of byte ∷ hex bytes
-unfolding hex
-hex-cons byte bytes = refl
-
-pub hex-append : (xs ys : List ℕ) → hex (xs ++ ys) ≡ hex xs ++ hex ys
-unfolding hex
-hex-append [] ys = refl
-hex-append (x ∷ xs) ys = ap (λ cs. high_of x ∷ low_of x ∷ cs) (hex-append xs ys)
-
-pub hex_push : (xs : List ℕ) (x : ℕ) → hex (xs ++ x ∷ []) ≡ hex xs ++ (high_of x ∷ low_of x ∷ [])
-hex_push xs x = hex-append xs (x ∷ []) ∙ ap (λ cs. hex xs ++ cs) (hex-cons x [] ∙ ap (λ cs. high_of x ∷ low_of x ∷ cs) hex-nil)
-
--- one more byte is printed
-pub printed_more : (front bytes out : List ℕ) (i high low : ℕ) → i < length bytes → out ≡ front ++ hex (take i bytes) → high ≡ high_of (get_or bytes i 0) → low ≡ low_of (get_or bytes i 0) → (out ++ high ∷ []) ++ low ∷ [] ≡ front ++ hex (take (i + 1) bytes)
-printed_more front bytes out i high low inside so_far high_is low_is =
-    append_assoc out (high ∷ []) (low ∷ [])
-    ∙ ap (λ cs. cs ++ (high ∷ low ∷ [])) so_far
-    ∙ append_assoc front (hex (take i bytes)) (high ∷ low ∷ [])
-    ∙ ap (λ c. front ++ (hex (take i bytes) ++ (c ∷ low ∷ []))) high_is
-    ∙ ap (λ c. front ++ (hex (take i bytes) ++ (high_of (get_or bytes i 0) ∷ c ∷ []))) low_is
-    ∙ ap (λ cs. front ++ cs) (sym (hex_push (take i bytes) (get_or bytes i 0)))
-    ∙ ap (λ bs. front ++ hex bs) (sym (take_more bytes i 0 inside))
+hex_of_pairs [] = refl
+hex_of_pairs (b ∷ bytes) = ap (λ cs. high_of b ∷ low_of b ∷ cs) (hex_of_pairs bytes)
 
 -- ---- the digits of bytes are digits, and there are two for each byte
 

@@ -36,6 +36,14 @@ no_cut byte [] xs (b ∷ y) no_y same = All-head (λ c. c ≢ byte) b y no_y (cc
 no_cut byte (a ∷ x) xs [] no_y same = cc
 no_cut byte (a ∷ x) xs (b ∷ y) no_y same = no_cut byte x xs y (All-tail (λ c. c ≢ byte) b y no_y) (cc)
 
+-- another first line before the bytes, and none
+pub other_line : (bytes line rest other more : List ℕ) → bytes ≡ ended line ++ rest → IsLine line → IsLine other → line ≢ other → bytes ≢ ended other ++ more
+other_line bytes line rest other more is is_line is_other differ same =
+    differ (one_cut 10 line rest other more is_line is_other (sym (append_assoc line (10 ∷ []) rest) ∙ sym is ∙ same ∙ append_assoc other (10 ∷ []) more)).front
+
+pub unended_line : (bytes other more : List ℕ) → IsLine bytes → bytes ≢ ended other ++ more
+unended_line bytes other more is_line same = no_cut 10 other more bytes is_line (sym (same ∙ append_assoc other (10 ∷ []) more))
+
 -- a text has one list of lines, and one rest
 pub record SameLines (xs : List (List ℕ)) (x : List ℕ) (ys : List (List ℕ)) (y : List ℕ) : Type 0 where
   pub lines : xs ≡ ys

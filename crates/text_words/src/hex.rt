@@ -8,16 +8,35 @@ ghost use Rattle.text_words.specs.Spelling.{hex};
 use crate::digits::digit;
 use std::alloc::{AllocError, Global};
 
+/// The two digits of a byte.
+fn digit_pair(byte: u8) -> [u8; 2]
+    ensures { result ≡ definitions.digit_pair byte }
+{
+    [digit(byte / 16), digit(byte % 16)]
+}
+
+/// The digits of bytes, in pairs. The compiler makes those of many bytes at once.
+fn pairs_of(alloc: Global, bytes: &[u8]) -> Result<Vec<[u8; 2]>, AllocError>
+    ensures { IfOk result (λ pairs. pairs.items ≡ map definitions.digit_pair bytes.now) }
+{
+    bytes
+        .iter()
+        .map(
+            |byte|
+                ensures { result ≡ definitions.digit_pair byte.now }
+            { digit_pair(*byte) },
+        )
+        .collect(alloc)
+}
+
 /// Appends two digits for each byte. Without memory nothing is appended.
 pub fn push_hex(out: &mut Vec<u8>, bytes: &[u8]) -> Result<(), AllocError>
     ensures ok { OnOk result (out.new.items ≡ out.old.items ++ hex bytes.now) }
     ensures err { OnErr result (out.new.items ≡ out.old.items) }
 {
-    out.reserve(2 * bytes.len())?;
-    for byte in bytes {
-        out.push(digit(*byte / 16))?;
-        out.push(digit(*byte % 16))?;
-    }
+    let alloc = *out.allocator();
+    let pairs = pairs_of(alloc, bytes)?;
+    out.extend_from_slice(pairs.as_flattened())?;
     Ok(())
 }
 

@@ -1,5 +1,6 @@
 //! The lines of a text.
-ghost use Rattle.std.specs.Prelude.{◌≡◌, ◌+◌, ◌^◌, ◌<◌, ◌++◌, ◌↔◌, [], IsTrue, IfSome, IfNone};
+ghost use Rattle.std.specs.Prelude.{◌≡◌, ◌≢◌, ℕ, List, ◌+◌, ◌^◌, ◌<◌, ◌++◌, ◌↔◌, [], IsTrue, IfSome, IfNone};
+ghost use Rattle.std.specs.Bool.{OnTrue, OnFalse};
 ghost use Rattle.text_words.specs.Layout.{IsLine, ended};
 
 use crate::cut::cut_at;
@@ -47,6 +48,27 @@ impl<'a> Lines<'a> {
         self.rest = rest;
         self.taken += 1;
         Some(line)
+    }
+
+    /// Takes the next line if it is this one, and else none.
+    pub fn take_line(&mut self, line: &[u8]) -> bool
+        ensures taken { OnTrue result (self.old.bytes ≡ ended line.now ++ self.new.bytes) }
+        ensures is_line { OnTrue result (IsLine line.now) }
+        ensures counted { OnTrue result (self.new.taken ≡ self.old.taken + 1) }
+        ensures other { OnFalse result (IsLine line.now → (more : List ℕ) → self.old.bytes ≢ ended line.now ++ more) }
+        ensures stays { OnFalse result (self.new ≡ self.old) }
+    {
+        let rest = self.rest;
+        let taken = self.taken;
+        let Some(next) = self.next_line() else {
+            return false;
+        };
+        if next == line {
+            return true;
+        }
+        self.rest = rest;
+        self.taken = taken;
+        false
     }
 
     /// How many lines were taken: the number of the last one, where lines count from 1.
