@@ -44,14 +44,15 @@ pub read_by : (numbers : List ℕ) (s : Sampled) (x : ℕ) → x < length number
 read_by numbers s x less is = any_at (reads numbers s) 0 (length numbers) x (omega arith) (omega arith) is
 
 -- a reader is kept as the row's blocker
-pub kept_by_reader : (numbers : List ℕ) (s : Sampled) (x n : ℕ) → x < length numbers → n ≡ get_or numbers x 0 → reads numbers s x ≡ true → IsKept numbers (blocked s x n)
-kept_by_reader numbers s x n less found is =
+pub kept_by_reader : (numbers : List ℕ) (s : Sampled) (x n : ℕ) → x < length numbers → n ≡ get_or numbers x 0 → reads numbers s x ≡ true → ((y : ℕ) → y < x → reads numbers s y ≡ false) → IsKept numbers (blocked s x n)
+kept_by_reader numbers s x n less found is first =
     let both = and_parts (get_or s.samples x 0 % 2 == 1) (get_or numbers x 0 == get_or s.samples x 0) is in
     let odd = eqb_is (get_or s.samples x 0 % 2) 1 both.0 in let same = eqb_is (get_or numbers x 0) (get_or s.samples x 0) both.1 in record {
       there = less;
       loaded = found;
       odd = ap (λ (y : ℕ). y % 2) (found ∙ same) ∙ odd;
       same = found ∙ same;
+      first = first;
     }
   where
     eqb_is : (a b : ℕ) → (a == b) ≡ true → a ≡ b
@@ -126,15 +127,15 @@ module _ (numbers : List ℕ) (first : List Sampled) (free : NumbersBelow) (p : 
   back = drop_more first p d less
 
   -- a row that is read stays, with its blocker
-  pub sweep_keeps : (b n : ℕ) → b < length numbers → n ≡ get_or numbers b 0 → reads numbers x b ≡ true → (limbo' : List Sampled) → limbo' ≡ set limbo p (blocked x b n) → SweptTo numbers first free p limbo' free'
-  sweep_keeps b n there found is limbo' e =
+  pub sweep_keeps : (b n : ℕ) → b < length numbers → n ≡ get_or numbers b 0 → reads numbers x b ≡ true → ((y : ℕ) → y < b → reads numbers x y ≡ false) → (limbo' : List Sampled) → limbo' ≡ set limbo p (blocked x b n) → SweptTo numbers first free p limbo' free'
+  sweep_keeps b n there found is none_before limbo' e =
       let read = read_by numbers x b there is in record {
         left = blocked x b n ∷ old.left;
         list = e ∙ (ap (λ (l : List Sampled). set l p (blocked x b n)) met_at ∙ (ap (λ (i : ℕ). set (take p first ++ x ∷ old.left) i (blocked x b n)) (sym front) ∙ set-append_seam (take p first) x old.left (blocked x b n)));
         stay = ap (λ (l : List _). put_of x ∷ l) old.stay
             ∙ (ap (λ (t : Bool). map put_of (cond t (x ∷ filter (is_read numbers) (drop (p + 1) first)) (filter (is_read numbers) (drop (p + 1) first)))) (sym read)
             ∙ ap (λ (l : List Sampled). map put_of (filter (is_read numbers) l)) (sym back));
-        kept = All-cons (IsKept numbers) (blocked x b n) old.left (kept_by_reader numbers x b n there found is) old.kept;
+        kept = All-cons (IsKept numbers) (blocked x b n) old.left (kept_by_reader numbers x b n there found is none_before) old.kept;
         limit = old.limit;
         freed = λ row. old.freed row ∙ ap (λ (l : List Sampled). set.contains free.numbers row || among (rows_of l) row)
             (ap (λ (t : Bool). cond (not t) (x ∷ filter (λ s. not (is_read numbers s)) (drop (p + 1) first)) (filter (λ s. not (is_read numbers s)) (drop (p + 1) first))) (sym read)

@@ -1,11 +1,12 @@
 -- Which rows a sweep takes out of limbo.
 --     IsStock      the two lists of the book that a pass has
 --     reads, is_read      a pass may still read a row in limbo;  some pass may
+--     IsReader      the first pass that may
 --     rows_of      the numbers of rows in limbo
 --     swept_rows      the rows of limbo that are not left there
---     IsKept      a row that the sweep left in limbo, with the pass that may still read it
+--     IsKept      a row that the sweep left in limbo, with the first pass that may still read it
 --     Sweeps      what a sweep leaves
-use Rattle.std.specs.Prelude.{◌≡◌, ℕ, ◌<◌, ◌%◌, ◌==◌, ◌&&◌, ◌||◌, Bool, not, List, map, length, slice_index, Some}
+use Rattle.std.specs.Prelude.{◌≡◌, ℕ, ◌<◌, ◌%◌, ◌==◌, ◌&&◌, ◌||◌, Bool, true, false, not, List, map, length, slice_index, Some}
 use Rattle.std.specs.List.{All, filter, range_with_len, list_any}
 use Rattle.std.specs.FinSet as set
 use Rattle.free_numbers.specs.Numbers.{NumbersBelow}
@@ -22,18 +23,23 @@ reads numbers s x = (slice_index s.samples x % 2 == 1) && (slice_index numbers x
 abbrev pub is_read : List ℕ → Sampled → Bool
 is_read numbers s = list_any (reads numbers s) (range_with_len 0 (length numbers))
 
+abbrev pub IsReader : List ℕ → Sampled → ℕ → Type 0
+IsReader numbers s x = (reads numbers s x ≡ true) × ((y : ℕ) → y < x → reads numbers s y ≡ false)
+
 abbrev pub rows_of : List Sampled → List ℕ
 rows_of limbo = map (λ s. s.row) limbo
 
 abbrev pub swept_rows : List Sampled → List Sampled → List ℕ
 swept_rows limbo left = minus (rows_of left) (rows_of limbo)
 
--- the pass and its number are those of a load of this sweep; the number is odd, and the one with which the row went into limbo
+-- The pass and its number are those of a load of this sweep; the number is odd, and the one with which the row went into limbo. No pass before
+-- it may read the row.
 pub record IsKept (numbers : List ℕ) (s : Sampled) : Type 0 where
   pub there : s.blocker < length numbers
   pub loaded : s.blocked_at ≡ slice_index numbers s.blocker
   pub odd : s.blocked_at % 2 ≡ 1
   pub same : s.blocked_at ≡ slice_index s.samples s.blocker
+  pub first : (x : ℕ) → x < s.blocker → reads numbers s x ≡ false
 
 module _ {R B E : Type 0} where
   pub record IsStock (M : Meaning R B E) (v : PassView R B E) (limbo : List Sampled) (free : NumbersBelow) : Type 0 where

@@ -6,7 +6,7 @@ ghost use Rattle.walk_core.specs.Guards.{IsUnread};
 ghost use Rattle.row_table.specs.Blocked.{IsBlocked};
 ghost use Rattle.row_table.specs.Passes.{view_of, kit_of, table_of, layout_of, IsPassOf};
 ghost use Rattle.epoch_grace.specs.Loads.{StaysSampled, put_of};
-ghost use Rattle.epoch_grace.specs.Sweeping.{IsStock, Sweeps, reads, swept_rows};
+ghost use Rattle.epoch_grace.specs.Sweeping.{IsStock, Sweeps, reads, IsReader, swept_rows};
 
 use crate::loads::load_all;
 use row_layout::{FreeRows, Limbo, Sampled};
@@ -16,7 +16,7 @@ use row_table::{Iron, Pass, Plan};
 fn reader_of(sampled: &Sampled, numbers: &[u64; 8], passes: u8) -> Option<u8>
     requires { passes ≤ 8 }
     ensures { MatchOption result ((x : ℕ) → x < passes → reads (take passes numbers.now) sampled.now x ≡ false)
-        (λ x. (x < passes) × (reads (take passes numbers.now) sampled.now x ≡ true)) }
+        (λ x. (x < passes) × IsReader (take passes numbers.now) sampled.now x) }
 {
     for pass in 0..passes {
         let place = usize::from(pass);

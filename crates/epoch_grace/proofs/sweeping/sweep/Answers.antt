@@ -74,7 +74,8 @@ loop-done-preserved g c =
           let t : w.set_blocker.new.self ≡ record c.loop-done.limbo { list = set c.loop-done.limbo.list p (blocked (get_or first p no_row) b n) }
           = subst (λ (o : Option Sampled). IfSome o (λ s. w.set_blocker.new.self ≡ record c.loop-done.limbo { list = set c.loop-done.limbo.list p (blocked s b n) })) here w.set_blocker.ensures in
           let found : n ≡ get_or numbers b 0 = ap (λ (i : ℕ). get_or c.load_all-numbers.result i 0) w.from.ensures ∙ sym (get_or-take c.layout.result.now.passes c.load_all-numbers.result b 0 low) in
-          let kept = sweep_keeps numbers first c.args.free.now p less c.loop-done.limbo.list c.loop-done.free old no_row b n (omega (arith, width, low)) found (ap (λ (s : Sampled). reads numbers s b) (sym is) ∙ w.in-Some.ensures.1)
+          let kept = sweep_keeps numbers first c.args.free.now p less c.loop-done.limbo.list c.loop-done.free old no_row b n (omega (arith, width, low)) found (ap (λ (s : Sampled). reads numbers s b) (sym is) ∙ w.in-Some.ensures.1.0)
+          (λ y low. ap (λ (s : Sampled). reads numbers s y) (sym is) ∙ w.in-Some.ensures.1.1 y low)
           c.match-reader_of.limbo.list (ap (λ (l : LimboList). l.list) (w.limbo-is ∙ t)) in (
             subst (λ (q : ℕ). SweptTo numbers first c.args.free.now q c.match-reader_of.limbo.list c.match-reader_of.free) next
                 (subst (λ (f : NumbersBelow). SweptTo numbers first c.args.free.now p c.match-reader_of.limbo.list f) (sym w.free-is) kept),
