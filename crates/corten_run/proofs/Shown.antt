@@ -72,6 +72,8 @@ module _ (st : State) (thread : ℕ) where
   shows_arguments (call.SwapOut space at len) = shows_unless _ reply.Einval refl
   shows_arguments (call.SwapIn space at len) = shows_unless _ reply.Einval refl
   shows_arguments (call.Txn space at len ops) = shows_unless _ reply.Einval refl
+  shows_arguments (call.DontNeed space at len) = shows_unless _ reply.Einval refl
+  shows_arguments (call.Remap space at old_len new_len) = shows_unless _ reply.Einval refl
   shows_arguments (call.Load space at len) = shows_each (λ page. reply.Segv (4096 * page)) _ (λ page. refl)
   shows_arguments (call.Store space at bytes) = shows_each (λ page. reply.Segv (4096 * page)) _ (λ page. refl)
   shows_arguments (call.Fault space at write) = shows_each (λ page. reply.Segv (4096 * page)) _ (λ page. refl)
@@ -88,6 +90,8 @@ module _ (st : State) (thread : ℕ) where
   shows_spaces (call.SwapOut space at len) = shows_not
   shows_spaces (call.SwapIn space at len) = shows_not
   shows_spaces (call.Txn space at len ops) = shows_not
+  shows_spaces (call.DontNeed space at len) = shows_not
+  shows_spaces (call.Remap space at old_len new_len) = shows_not
   shows_spaces (call.Load space at len) = shows_not
   shows_spaces (call.Store space at bytes) = shows_not
   shows_spaces (call.Fault space at write) = shows_not
@@ -95,6 +99,8 @@ module _ (st : State) (thread : ℕ) where
 
   shows_place : (c : Call) → ShowsNone (no_place st thread c)
   shows_place (call.Map space place.Any len perm what) = shows_unless _ reply.NoRoom refl
+  shows_place (call.Remap space at old_len new_len) = shows_unless _ reply.NoRoom refl
+  shows_place (call.DontNeed space at len) = shows_not
   shows_place (call.Map space (place.At at) len perm what) = shows_not
   shows_place (call.Map space (place.New at) len perm what) = shows_each reply_why _ shows_why
   shows_place (call.Unmap space at len) = shows_not
@@ -112,6 +118,8 @@ module _ (st : State) (thread : ℕ) where
   shows_pages : (c : Call) → ShowsNone (pages st c)
   shows_pages (call.Protect space at len perm) = shows_each reply_why _ shows_why
   shows_pages (call.Txn space at len ops) = shows_each (λ (u : ℕ × Why). reply.Undone u.0 u.1) _ (λ u. refl)
+  shows_pages (call.DontNeed space at len) = shows_each (λ page. reply.Hole (4096 * page)) _ (λ page. refl)
+  shows_pages (call.Remap space at old_len new_len) = shows_each (λ page. reply.Hole (4096 * page)) _ (λ page. refl)
   shows_pages (call.Load space at len) = shows_access st.files _ (record { at = at; len = len; write = false; stored = [] })
   shows_pages (call.Store space at bytes) = shows_access st.files _ (record { at = at; len = length bytes; write = true; stored = bytes })
   shows_pages (call.Fault space at write) = shows_access st.files _ (record { at = at; len = 1; write = write; stored = [] })
@@ -152,6 +160,8 @@ answer_shows st thread (call.Exit space) = refl
 answer_shows st thread (call.SwapOut space at len) = refl
 answer_shows st thread (call.SwapIn space at len) = refl
 answer_shows st thread (call.Txn space at len ops) = refl
+answer_shows st thread (call.DontNeed space at len) = refl
+answer_shows st thread (call.Remap space at old_len new_len) = refl
 
 pub step_shows : (st : State) (thread : ℕ) (c : Call) → limbo_of (step st thread c 0).0 ≡ 0
 step_shows st thread c = go (refusal st thread c 0) refl

@@ -5,19 +5,22 @@ use Rattle.std.proofs.lemmas.List.Elements.{All-nil, All-cons, All-head, All-tai
 use Rattle.corten_base.specs.declared.calls.Call.{Call}
 use Rattle.corten_base.specs.declared.calls.Entry.{Entry}
 use Rattle.corten_base.specs.declared.calls.Reply.{Reply}
-use Rattle.page_map.specs.State.{State, start, accounts, linked, IsConsistent}
+use Rattle.page_map.specs.State.{State, accounts, linked, IsConsistent}
 use Rattle.page_map.specs.Step.{step}
 use Rattle.page_map.specs.History.{IsLegal, after, limbo_of}
-use Rattle.page_map.proofs.Start.{start_is_consistent}
 use Rattle.page_map.proofs.Histories.{legal_join, after_append}
 use Rattle.mm_script.specs.declared.script.Script.{Script}
 use Rattle.mm_script.specs.CallLine.{IsCall}
-use Rattle.mm_script.specs.ScriptText.{IsScript}
-use Rattle.history_lines.specs.HistoryText.{IsAsked, HasText}
+use Rattle.mm_script.specs.ScriptText.{AreLimits, IsScript}
+use Rattle.history_lines.specs.HistoryText.{IsAsked, IsEntryOf, HasText}
+use Rattle.history_lines.specs.Accounting.{HasLevels, IsHeader}
 use Rattle.history_lines.specs.Checking.{AreRight, IsLegalHistory}
-use Rattle.history_lines.proofs.Closings.{own_accounts, closed_has_text}
+use Rattle.history_lines.proofs.Closings.{own_accounts, closed_has_text, final_is_consistent, entries_of_two}
 use Rattle.history_text.proofs.Reached.{history_entries}
-use Rattle.corten_run.specs.Solo.{answered, state_after_calls, all_answered, state_after_threads, solo_history}
+use Rattle.corten_run.specs.declared.command.Levels.{Levels}
+use Rattle.corten_run.specs.declared.command.Levels.TheVariants.{Four, Five}
+use Rattle.corten_run.specs.Commands.{level_count}
+use Rattle.corten_run.specs.Solo.{answered, state_after_calls, all_answered, state_after_threads, solo_limits, solo_start, solo_history}
 use Rattle.corten_run.proofs.Answering.{calls_keep}
 use Rattle.corten_run.proofs.Shown.{step_shows}
 
@@ -60,10 +63,24 @@ threads_keep : (st : State) (thread : ℕ) (ts : List (List Call)) → thread + 
 threads_keep st thread [] few ok = ok
 threads_keep st thread (cs ∷ ts) few ok = threads_keep (state_after_calls st thread cs) (thread + 1) ts (omega (arith, few)) (calls_keep st thread cs (omega (arith, few)) ok)
 
-pub solo_is_legal : (script : Script) → IsScript script → IsLegalHistory (solo_history script)
-solo_is_legal script h =
-    let st : State = start script.limits script.shelf in
-    let ok : IsConsistent st = start_is_consistent script.limits script.shelf h.limits.tables.0 in
+-- the limits of a script, with four levels or five
+pub solo_header : (levels : Levels) (script : Script) → IsScript script → IsHeader (record { version = 2; limits = solo_limits levels script })
+solo_header levels script h =
+    let numbers = h.limits.numbers in
+    let limits : AreLimits (solo_limits levels script) = record { frames = numbers.frames; tables = numbers.tables; swap = numbers.swap } in
+    record { version = (omega arith, omega arith); limits = limits; levels = levels_are levels }
+  where
+    levels_are : (l : Levels) → HasLevels 2 (level_count l)
+    levels_are Four = HasLevels.four refl
+    levels_are Five = HasLevels.five refl refl
+
+pub solo_consistent : (levels : Levels) (script : Script) → IsScript script → IsConsistent (solo_start levels script)
+solo_consistent levels script h = final_is_consistent (record { version = 2; limits = solo_limits levels script }) script.shelf [] (solo_header levels script h) (All-nil (IsEntryOf 2))
+
+pub solo_is_legal : (levels : Levels) (script : Script) → IsScript script → IsLegalHistory (solo_history levels script)
+solo_is_legal levels script h =
+    let st : State = solo_start levels script in
+    let ok : IsConsistent st = solo_consistent levels script h in
     let few : 0 + length script.threads ≤ 8 = let count = h.threads.count in omega (arith, count.1) in
     record {
       entries = threads_legal st 0 script.threads few ok;
@@ -85,12 +102,13 @@ threads_asked st thread (cs ∷ ts) few h =
     (calls_asked st thread cs (omega (arith, few)) (All-head (All IsCall) cs ts h))
     (threads_asked (state_after_calls st thread cs) (thread + 1) ts (omega (arith, few)) (All-tail (All IsCall) cs ts h))
 
-pub solo_has_text : (script : Script) → IsScript script → HasText (solo_history script)
-solo_has_text script h =
-    let st : State = start script.limits script.shelf in
+pub solo_has_text : (levels : Levels) (script : Script) → IsScript script → HasText (solo_history levels script)
+solo_has_text levels script h =
+    let st : State = solo_start levels script in
     let es : List Entry = all_answered st 0 script.threads in
     let few : 0 + length script.threads ≤ 8 = let count = h.threads.count in omega (arith, count.1) in
-    let legal = solo_is_legal script h in
-    let entries = history_entries script.limits script.shelf es h.limits h.files (threads_asked st 0 script.threads few h.threads.calls) legal.entries in
-    subst (λ s. HasText (record { limits = script.limits; shelf = script.shelf; entries = es; accounts = accounts s 0 })) (threads_after st 0 script.threads)
-    (closed_has_text script.limits script.shelf es h.limits h.files entries)
+    let legal = solo_is_legal levels script h in
+    let header = solo_header levels script h in
+    let entries = history_entries 2 (solo_limits levels script) script.shelf es header h.files (threads_asked st 0 script.threads few h.threads.calls) legal.entries in
+    subst (λ s. HasText (record { version = 2; limits = solo_limits levels script; shelf = script.shelf; entries = es; accounts = accounts s 0 })) (threads_after st 0 script.threads)
+    (closed_has_text (record { version = 2; limits = solo_limits levels script }) script.shelf es header h.files (entries_of_two es entries))

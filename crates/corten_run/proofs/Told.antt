@@ -21,6 +21,8 @@ use Rattle.tlb_text.proofs.Behind.{is_event_text}
 use Rattle.corten_run.specs.Commands.{Names, greatest_length}
 use Rattle.corten_run.specs.Endings.{Sides, CommandEnds, Answers, IsNoText, IsFirstFault, Refuses, IsVerdictText, ending_of, verdict_line}
 use Rattle.corten_run.specs.Statuses.{status_of}
+use Rattle.corten_run.specs.declared.command.Levels.{Levels}
+use Rattle.corten_run.specs.declared.command.Levels.TheVariants.{Four, Five}
 use Rattle.corten_run.specs.declared.command.Command.{Command}
 use Rattle.corten_run.specs.declared.command.Command.TheVariants.{Solo, Check, Tlb}
 use Rattle.corten_run.specs.declared.ending.Ending.{Ending}
@@ -28,7 +30,7 @@ use Rattle.corten_run.specs.declared.ending.Ending.TheVariants.{Done, Refused, U
 
 -- a command that answers bytes has read a text
 answers_no_text : (command : Command) (bytes written : List ℕ) (e : Ending) → Answers command bytes e written → (length bytes ≤ greatest_length command → IsNoText command bytes) → ⊥
-answers_no_text Solo bytes written e h none = none h.0.fits h.0.script h.0.is_text
+answers_no_text (Solo levels) bytes written e h none = none h.0.fits h.0.script h.0.is_text
 answers_no_text Check bytes written e h none = none h.fits h.history h.is_text
 answers_no_text Tlb bytes written e h none = none h.0.fits (is_event_text bytes written h.0.answers)
 
@@ -75,21 +77,21 @@ told_ending command None s e n is told = tt
 told_ending command (Some bytes) s e n is told = (e, is, told)
 
 -- a script is answered by its history, or memory is wanted
-done_when : (bytes : List ℕ) (script : Script) (s : Sides) (e : Ending) → CommandEnds Solo bytes s e → ¬ (Rises s.read_faults s.read_faults_now) → ¬ (Rises s.write_faults s.write_faults_now)
-    → IsScriptText bytes script → length bytes ≤ greatest_length Solo → (status_of e ≡ 0) ⊎ (status_of e ≡ 5)
-done_when bytes script s Done ends quiet silent is_text fits = inl refl
-done_when bytes script s Illegal ends quiet silent is_text fits = let differ : Illegal ≡ Done = ends.1.1 in absurd (cc differ)
-done_when bytes script s Refused (written, inl bad, said) quiet silent is_text fits = absurd (bad.no_text script is_text)
-done_when bytes script s Refused (written, inr long, said) quiet silent is_text fits = let more = long.too_long in absurd (omega (arith, more, fits))
-done_when bytes script s Usage ends quiet silent is_text fits = absurd ends
-done_when bytes script s ReadFailed ends quiet silent is_text fits = absurd (quiet ends.0)
-done_when bytes script s WriteFailed ends quiet silent is_text fits = absurd (silent ends.1)
-done_when bytes script s NoMemory ends quiet silent is_text fits = inr refl
+done_when : (levels : Levels) (bytes : List ℕ) (script : Script) (s : Sides) (e : Ending) → CommandEnds (Solo levels) bytes s e → ¬ (Rises s.read_faults s.read_faults_now) → ¬ (Rises s.write_faults s.write_faults_now)
+    → IsScriptText bytes script → length bytes ≤ greatest_length (Solo levels) → (status_of e ≡ 0) ⊎ (status_of e ≡ 5)
+done_when levels bytes script s Done ends quiet silent is_text fits = inl refl
+done_when levels bytes script s Illegal ends quiet silent is_text fits = let differ : Illegal ≡ Done = ends.1.1 in absurd (cc differ)
+done_when levels bytes script s Refused (written, inl bad, said) quiet silent is_text fits = absurd (bad.no_text script is_text)
+done_when levels bytes script s Refused (written, inr long, said) quiet silent is_text fits = let more = long.too_long in absurd (omega (arith, more, fits))
+done_when levels bytes script s Usage ends quiet silent is_text fits = absurd ends
+done_when levels bytes script s ReadFailed ends quiet silent is_text fits = absurd (quiet ends.0)
+done_when levels bytes script s WriteFailed ends quiet silent is_text fits = absurd (silent ends.1)
+done_when levels bytes script s NoMemory ends quiet silent is_text fits = inr refl
 
-pub done_if : (left : Option (List ℕ)) (script : Script) (s : Sides) (e : Ending) (n : ℕ) → n ≡ status_of e → IfSome left (λ bytes. CommandEnds Solo bytes s e) → ¬ (Rises s.read_faults s.read_faults_now) → ¬ (Rises s.write_faults s.write_faults_now)
-    → IfSome left (λ bytes. IsScriptText bytes script → length bytes ≤ greatest_length Solo → (n ≡ 0) ⊎ (n ≡ 5))
-done_if None script s e n is told quiet silent = tt
-done_if (Some bytes) script s e n is told quiet silent = λ is_text fits. subst (λ m. (m ≡ 0) ⊎ (m ≡ 5)) (sym is) (done_when bytes script s e told quiet silent is_text fits)
+pub done_if : (levels : Levels) (left : Option (List ℕ)) (script : Script) (s : Sides) (e : Ending) (n : ℕ) → n ≡ status_of e → IfSome left (λ bytes. CommandEnds (Solo levels) bytes s e) → ¬ (Rises s.read_faults s.read_faults_now) → ¬ (Rises s.write_faults s.write_faults_now)
+    → IfSome left (λ bytes. IsScriptText bytes script → length bytes ≤ greatest_length (Solo levels) → (n ≡ 0) ⊎ (n ≡ 5))
+done_if levels None script s e n is told quiet silent = tt
+done_if levels (Some bytes) script s e n is told quiet silent = λ is_text fits. subst (λ m. (m ≡ 0) ⊎ (m ≡ 5)) (sym is) (done_when levels bytes script s e told quiet silent is_text fits)
 
 -- events are answered, or memory is wanted
 answered_when : (bytes : List ℕ) (s : Sides) (e : Ending) → CommandEnds Tlb bytes s e → ¬ (Rises s.read_faults s.read_faults_now) → ¬ (Rises s.write_faults s.write_faults_now)
@@ -150,15 +152,31 @@ no_fault_ending (verdict.Illegal n) = (λ e. cc, λ e. cc)
 
 -- words name one command at most
 pub one_command : (words : List (List ℕ)) (a b : Command) → Names words a → Names words b → a ≡ b
-one_command words Solo Solo ha hb = refl
-one_command words Solo Check ha hb = let same = sym ha ∙ hb in absurd (cc same)
-one_command words Check Solo ha hb = let same = sym ha ∙ hb in absurd (cc same)
+one_command words (Solo Four) (Solo Four) ha hb = refl
+one_command words (Solo Five) (Solo Five) ha hb = refl
+one_command words (Solo Four) (Solo Five) ha hb = let same = sym ha ∙ hb in absurd (cc same)
+one_command words (Solo Five) (Solo Four) ha hb = let same = sym ha ∙ hb in absurd (cc same)
+one_command words (Solo Four) Check ha hb = let same = sym ha ∙ hb in absurd (cc same)
+one_command words (Solo Five) Check ha hb = let same = sym ha ∙ hb in absurd (cc same)
+one_command words Check (Solo Four) ha hb = let same = sym ha ∙ hb in absurd (cc same)
+one_command words Check (Solo Five) ha hb = let same = sym ha ∙ hb in absurd (cc same)
 one_command words Check Check ha hb = refl
-one_command words Solo Tlb ha hb = let same = sym ha ∙ hb in absurd (cc same)
+one_command words (Solo Four) Tlb ha hb = let same = sym ha ∙ hb in absurd (cc same)
+one_command words (Solo Five) Tlb ha hb = let same = sym ha ∙ hb in absurd (cc same)
 one_command words Check Tlb ha hb = let same = sym ha ∙ hb in absurd (cc same)
-one_command words Tlb Solo ha hb = let same = sym ha ∙ hb in absurd (cc same)
+one_command words Tlb (Solo Four) ha hb = let same = sym ha ∙ hb in absurd (cc same)
+one_command words Tlb (Solo Five) ha hb = let same = sym ha ∙ hb in absurd (cc same)
 one_command words Tlb Check ha hb = let same = sym ha ∙ hb in absurd (cc same)
 one_command words Tlb Tlb ha hb = refl
+
+pub told_named : (command named : Command) → command ≡ named → (left : Option (List ℕ)) (s : Sides) (e : Ending) (n : ℕ) → n ≡ status_of e → IfSome left (λ bytes. CommandEnds command bytes s e)
+    → IfSome left (λ bytes. (ending : Ending) × (n ≡ status_of ending) × CommandEnds named bytes s ending)
+told_named command named is left s e n status told = told_ending named left s e n status (subst (λ k. IfSome left (λ bytes. CommandEnds k bytes s e)) is told)
+
+pub done_named : (command : Command) (levels : Levels) → command ≡ Solo levels → (left : Option (List ℕ)) (script : Script) (s : Sides) (e : Ending) (n : ℕ) → n ≡ status_of e → IfSome left (λ bytes. CommandEnds command bytes s e)
+    → ¬ (Rises s.read_faults s.read_faults_now) → ¬ (Rises s.write_faults s.write_faults_now)
+    → IfSome left (λ bytes. IsScriptText bytes script → length bytes ≤ greatest_length (Solo levels) → (n ≡ 0) ⊎ (n ≡ 5))
+done_named command levels is left script s e n status told = done_if levels left script s e n status (subst (λ k. IfSome left (λ bytes. CommandEnds k bytes s e)) is told)
 
 pub judged_named : (command : Command) → command ≡ Check → (left : Option (List ℕ)) (h : History) (v : Verdict) (s : Sides) (e : Ending) (n : ℕ) → n ≡ status_of e → IfSome left (λ bytes. CommandEnds command bytes s e)
     → ¬ (Rises s.read_faults s.read_faults_now) → ¬ (Rises s.write_faults s.write_faults_now)

@@ -26,17 +26,18 @@ use Rattle.history_lines.specs.Checking.{IsVerdict}
 use Rattle.tlb_text.specs.EventText as events
 use Rattle.corten_run.specs.Solo.{solo_text}
 use Rattle.corten_run.specs.Commands.{greatest_length}
+use Rattle.corten_run.specs.declared.command.Levels.{Levels}
 use Rattle.corten_run.specs.declared.command.Command.{Command}
 use Rattle.corten_run.specs.declared.command.Command.TheVariants.{Solo, Check, Tlb}
 use Rattle.corten_run.specs.declared.ending.Ending.{Ending}
 use Rattle.corten_run.specs.declared.ending.Ending.TheVariants.{Done, Refused, Usage, ReadFailed, WriteFailed, NoMemory, Illegal}
 
--- the bytes are a script's text, and this is the text of the one history of its calls
-pub record IsSoloText (bytes written : List ℕ) : Type 0 where
+-- the bytes are a script's text, and this is the text of the one history of its calls with so many levels
+pub record IsSoloText (levels : Levels) (bytes written : List ℕ) : Type 0 where
   pub script : Script
   pub is_text : scripts.IsScriptText bytes script
-  pub fits : length bytes ≤ greatest_length Solo
-  pub history : written ≡ solo_text script
+  pub fits : length bytes ≤ greatest_length (Solo levels)
+  pub history : written ≡ solo_text levels script
 
 -- the bytes are events, and this is the text of their answers
 pub record IsTlbText (bytes written : List ℕ) : Type 0 where
@@ -63,19 +64,19 @@ pub record IsVerdictText (bytes : List ℕ) (ending : Ending) (written : List �
 
 -- the whole text that a command writes where it ends so
 abbrev pub Answers : Command → List ℕ → Ending → List ℕ → Type 0
-Answers Solo bytes ending written = IsSoloText bytes written × (ending ≡ Done)
+Answers (Solo levels) bytes ending written = IsSoloText levels bytes written × (ending ≡ Done)
 Answers Check bytes ending written = IsVerdictText bytes ending written
 Answers Tlb bytes ending written = IsTlbText bytes written × (ending ≡ Done)
 
 -- the bytes are not the text that a command reads
 abbrev pub IsNoText : Command → List ℕ → Type 0
-IsNoText Solo bytes = (script : Script) → ¬ (scripts.IsScriptText bytes script)
+IsNoText (Solo levels) bytes = (script : Script) → ¬ (scripts.IsScriptText bytes script)
 IsNoText Check bytes = (h : History) → ¬ (histories.IsHistoryText bytes h)
 IsNoText Tlb bytes = ¬ (events.IsEventText bytes)
 
 -- the number of the first line outside the grammar of the texts that a command reads
 abbrev pub IsFirstFault : Command → List ℕ → ℕ → Type 0
-IsFirstFault Solo = scripts.IsFirstFault
+IsFirstFault (Solo levels) = scripts.IsFirstFault
 IsFirstFault Check = histories.IsFirstFault
 IsFirstFault Tlb = events.IsFirstFault
 

@@ -11,7 +11,7 @@ ghost use Rattle.corten_run.specs.Commands.{greatest_length};
 ghost use Rattle.corten_run.specs.Endings as definitions;
 ghost use Rattle.corten_run.specs.Endings.{verdict_line, CommandEnds};
 
-use crate::command::Command;
+use crate::command::{Command, Levels};
 use crate::ending::Ending;
 use crate::script_run::write_solo;
 use byte_streams::write_whole;
@@ -34,7 +34,8 @@ fn numbered_line(alloc: Global, word: &[u8], line: u64) -> Result<Vec<u8>, Alloc
 
 /// Writes the line that names a line outside the grammar.
 fn refuse<K: Sink>(alloc: Global, line: u64, sink: &mut K) -> Ending
-    ensures { definitions.Refuses (K.held sink.old) (K.held sink.new) (K.faults sink.old) (K.faults sink.new) (ended (codes "bad " ++ number line)) result }
+    ensures { definitions.Refuses (K.held sink.old) (K.held sink.new)
+        (K.faults sink.old) (K.faults sink.new) (ended (codes "bad " ++ number line)) result }
 {
     let Ok(text) = numbered_line(alloc, b"bad ", line) else {
         return Ending::NoMemory;
@@ -45,7 +46,8 @@ fn refuse<K: Sink>(alloc: Global, line: u64, sink: &mut K) -> Ending
 
 /// Writes the line of what was found of a history.
 fn write_verdict<K: Sink>(alloc: Global, verdict: Verdict, sink: &mut K) -> Written
-    ensures { IsWritten (K.held sink.old) (K.held sink.new) (K.faults sink.old) (K.faults sink.new) (verdict_line verdict) result }
+    ensures { IsWritten (K.held sink.old) (K.held sink.new)
+        (K.faults sink.old) (K.faults sink.new) (verdict_line verdict) result }
 {
     let text = match verdict {
         Verdict::Legal(entries) => numbered_line(alloc, b"legal ", entries),
@@ -71,10 +73,10 @@ fn ending_of(verdict: Verdict) -> Ending
     }
 }
 
-/// Runs the script whose text the bytes are.
-fn answer_script<K: Sink>(alloc: Global, bytes: &[u8], sink: &mut K) -> Ending
-    requires { length bytes.now ≤ greatest_length command.Solo }
-    ensures ends { CommandEnds command.Solo bytes.now (record {
+/// Runs the script whose text the bytes are, with page tables of so many levels.
+fn answer_script<K: Sink>(alloc: Global, levels: Levels, bytes: &[u8], sink: &mut K) -> Ending
+    requires { length bytes.now ≤ greatest_length (command.Solo levels) }
+    ensures ends { CommandEnds (command.Solo levels) bytes.now (record {
       left_now = Some [];
       read_faults = 0;
       read_faults_now = 0;
@@ -85,10 +87,11 @@ fn answer_script<K: Sink>(alloc: Global, bytes: &[u8], sink: &mut K) -> Ending
     }) result }
     ensures read { result ≢ Ending.ReadFailed }
     ensures other { result ≢ Ending.Illegal }
-    ensures write_fault { result ≡ Ending.WriteFailed → Rises (K.faults sink.old) (K.faults sink.new) }
+    ensures write_fault { result ≡ Ending.WriteFailed
+        → Rises (K.faults sink.old) (K.faults sink.new) }
 {
     match read_script(alloc, bytes) {
-        Ok(script) => match write_solo(alloc, script, sink) {
+        Ok(script) => match write_solo(alloc, script, levels, sink) {
             Written::Whole => Ending::Done,
             Written::Failed => Ending::WriteFailed,
             Written::NoMemory => Ending::NoMemory,
@@ -111,7 +114,8 @@ fn answer_history<K: Sink>(alloc: Global, bytes: &[u8], sink: &mut K) -> Ending
       write_faults_now = K.faults sink.new;
     }) result }
     ensures read { result ≢ Ending.ReadFailed }
-    ensures write_fault { result ≡ Ending.WriteFailed → Rises (K.faults sink.old) (K.faults sink.new) }
+    ensures write_fault { result ≡ Ending.WriteFailed
+        → Rises (K.faults sink.old) (K.faults sink.new) }
 {
     let history = match read_history(alloc, bytes) {
         Ok(history) => history,
@@ -142,7 +146,8 @@ fn answer_caches<K: Sink>(alloc: Global, bytes: &[u8], sink: &mut K) -> Ending
     }) result }
     ensures read { result ≢ Ending.ReadFailed }
     ensures other { result ≢ Ending.Illegal }
-    ensures write_fault { result ≡ Ending.WriteFailed → Rises (K.faults sink.old) (K.faults sink.new) }
+    ensures write_fault { result ≡ Ending.WriteFailed
+        → Rises (K.faults sink.old) (K.faults sink.new) }
 {
     match answer_events(alloc, bytes) {
         Ok(text) => {
@@ -171,10 +176,11 @@ pub(crate) fn answer<K: Sink>(alloc: Global, command: Command, bytes: &[u8], sin
     }) result }
     ensures read { result ≢ Ending.ReadFailed }
     ensures illegal { result ≡ Ending.Illegal → command ≡ Command.Check }
-    ensures write_fault { result ≡ Ending.WriteFailed → Rises (K.faults sink.old) (K.faults sink.new) }
+    ensures write_fault { result ≡ Ending.WriteFailed
+        → Rises (K.faults sink.old) (K.faults sink.new) }
 {
     match command {
-        Command::Solo => answer_script(alloc, bytes, sink),
+        Command::Solo(levels) => answer_script(alloc, levels, bytes, sink),
         Command::Check => answer_history(alloc, bytes, sink),
         Command::Tlb => answer_caches(alloc, bytes, sink),
     }

@@ -1,15 +1,34 @@
 //! The words of the command line.
 ghost use Rattle.std.specs.Prelude.{◌≡◌, map, IfSome, IfNone};
 ghost use Rattle.std.specs.String.{string_bytes};
-ghost use Rattle.corten_run.specs.Commands.{Names};
+ghost use Rattle.corten_run.specs.Commands.{Names, level_count};
 ghost use Rattle.corten_run.specs.Commands as definitions;
 ghost use Rattle.corten_run.specs.declared.command.Command.{Command};
+
+/// How many levels the page tables have.
+#[derive(Clone, Copy, Debug, PartialEq, Eq)]
+pub enum Levels {
+    Four,
+    Five,
+}
+
+impl Levels {
+    /// Their number.
+    pub fn number(self) -> u8
+        ensures { result ≡ level_count self }
+    {
+        match self {
+            Levels::Four => 4,
+            Levels::Five => 5,
+        }
+    }
+}
 
 /// What the program is told to do.
 #[derive(Clone, Copy, Debug, PartialEq, Eq)]
 pub enum Command {
-    /// Reads a script and runs it on the plain machine.
-    Solo,
+    /// Reads a script and runs it on the plain machine, with page tables of so many levels.
+    Solo(Levels),
     /// Reads a history and says whether it is legal.
     Check,
     /// Reads events of translation caches and answers each.
@@ -19,12 +38,16 @@ pub enum Command {
 /// The command that the words after the program's name spell.
 pub fn read_command(words: &[String]) -> Option<Command>
     ensures found { IfSome result (Names (map string_bytes words.now)) }
-    ensures none { IfNone result ((command : Command) → ¬ (Names (map string_bytes words.now) command)) }
+    ensures none { IfNone result ((command : Command)
+        → ¬ (Names (map string_bytes words.now) command)) }
 {
     match words {
-        [word] if word.as_str() == "solo" => Some(Command::Solo),
+        [word] if word.as_str() == "solo" => Some(Command::Solo(Levels::Four)),
         [word] if word.as_str() == "check" => Some(Command::Check),
         [word] if word.as_str() == "tlb" => Some(Command::Tlb),
+        [word, levels] if word.as_str() == "solo" && levels.as_str() == "5" => {
+            Some(Command::Solo(Levels::Five))
+        }
         _ => None,
     }
 }
@@ -34,7 +57,7 @@ pub fn greatest_length(command: Command) -> usize
     ensures { result ≡ definitions.greatest_length command }
 {
     match command {
-        Command::Solo => 4_194_304,
+        Command::Solo(_) => 4_194_304,
         Command::Check => 67_108_864,
         Command::Tlb => 4_194_304,
     }

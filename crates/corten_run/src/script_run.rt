@@ -9,7 +9,8 @@ ghost use Rattle.history_lines.specs.HistoryText.{answer_line, lines_of};
 ghost use Rattle.history_lines.specs.Outcomes.{GoesOn, IsWritten};
 ghost use Rattle.corten_run.specs.Solo.{answered, state_after_calls, all_answered, state_after_threads, solo_text};
 
-use corten_base::{Call, CallList, Sink};
+use crate::command::Levels;
+use corten_base::{Call, CallList, Limits, Sink};
 use history_text::{Written, push_header, write_accounts, write_entry};
 use mm_model::{Plain, StepFault};
 use mm_script::Script;
@@ -27,8 +28,10 @@ fn answer_call<K: Sink>(
     requires thread { thread < 8 }
     requires call { IsCall call.now }
     requires state { IsConsistent plain.old }
-    ensures written { GoesOn (K.held sink.old) (K.held sink.new) (K.faults sink.old) (K.faults sink.new)
-        (waiting.old.items ++ ended (answer_line thread call.now (step plain.old thread call.now 0).0)) waiting.new.items result }
+    ensures written { GoesOn (K.held sink.old) (K.held sink.new)
+        (K.faults sink.old) (K.faults sink.new)
+        (waiting.old.items ++ ended (answer_line thread call.now (step plain.old thread call.now 0).0))
+        waiting.new.items result }
     ensures after { result ≡ Written.Whole → plain.new ≡ (step plain.old thread call.now 0).1 }
     ensures count { K.faults sink.old ≤ K.faults sink.new }
 {
@@ -52,9 +55,12 @@ fn answer_calls<K: Sink>(
     requires thread { thread < 8 }
     requires calls { All IsCall calls.now }
     requires state { IsConsistent plain.old }
-    ensures written { GoesOn (K.held sink.old) (K.held sink.new) (K.faults sink.old) (K.faults sink.new)
-        (waiting.old.items ++ lines_of (answered plain.old thread calls.now)) waiting.new.items result }
-    ensures after { result ≡ Written.Whole → plain.new ≡ state_after_calls plain.old thread calls.now }
+    ensures written { GoesOn (K.held sink.old) (K.held sink.new)
+        (K.faults sink.old) (K.faults sink.new)
+        (waiting.old.items ++ lines_of (answered plain.old thread calls.now))
+        waiting.new.items result }
+    ensures after { result ≡ Written.Whole
+        → plain.new ≡ state_after_calls plain.old thread calls.now }
     ensures count { K.faults sink.old ≤ K.faults sink.new }
 {
     for call in calls {
@@ -78,9 +84,12 @@ fn answer_threads<K: Sink>(
     requires threads { length threads.now ≤ 8 }
     requires calls { All (All IsCall) threads.now }
     requires state { IsConsistent plain.old }
-    ensures written { GoesOn (K.held sink.old) (K.held sink.new) (K.faults sink.old) (K.faults sink.new)
-        (waiting.old.items ++ lines_of (all_answered plain.old 0 threads.now)) waiting.new.items result }
-    ensures after { result ≡ Written.Whole → plain.new ≡ state_after_threads plain.old 0 threads.now }
+    ensures written { GoesOn (K.held sink.old) (K.held sink.new)
+        (K.faults sink.old) (K.faults sink.new)
+        (waiting.old.items ++ lines_of (all_answered plain.old 0 threads.now))
+        waiting.new.items result }
+    ensures after { result ≡ Written.Whole
+        → plain.new ≡ state_after_threads plain.old 0 threads.now }
     ensures count { K.faults sink.old ≤ K.faults sink.new }
 {
     let mut thread = 0u8;
@@ -95,10 +104,11 @@ fn answer_threads<K: Sink>(
     Written::Whole
 }
 
-/// Runs a script on the plain machine and writes the text of its history.
-pub fn write_solo<K: Sink>(alloc: Global, script: Script, sink: &mut K) -> Written
+/// Runs a script on the plain machine, with page tables of so many levels, and writes the text of its history.
+pub fn write_solo<K: Sink>(alloc: Global, script: Script, levels: Levels, sink: &mut K) -> Written
     requires { IsScript script }
-    ensures written { IsWritten (K.held sink.old) (K.held sink.new) (K.faults sink.old) (K.faults sink.new) (solo_text script) result }
+    ensures written { IsWritten (K.held sink.old) (K.held sink.new)
+        (K.faults sink.old) (K.faults sink.new) (solo_text levels script) result }
     ensures count { K.faults sink.old ≤ K.faults sink.new }
 {
     let Script {
@@ -106,6 +116,12 @@ pub fn write_solo<K: Sink>(alloc: Global, script: Script, sink: &mut K) -> Writt
         shelf,
         threads,
     } = script;
+    let limits = Limits {
+        levels: levels.number(),
+        frames: limits.frames,
+        tables: limits.tables,
+        swap: limits.swap,
+    };
     let mut waiting = Vec::new(alloc);
     let Ok(()) = push_header(&mut waiting, limits, &shelf) else {
         return Written::NoMemory;

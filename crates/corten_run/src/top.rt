@@ -9,6 +9,7 @@ ghost use Rattle.history_lines.specs.declared.verdict.Verdict.{Verdict};
 ghost use Rattle.history_lines.specs.HistoryText.{IsHistoryText};
 ghost use Rattle.history_lines.specs.Checking.{IsVerdict};
 ghost use Rattle.tlb_text.specs.EventText.{IsEventText};
+ghost use Rattle.corten_run.specs.declared.command.Levels.{Levels};
 ghost use Rattle.corten_run.specs.declared.command.Command.{Command};
 ghost use Rattle.corten_run.specs.declared.command.Command.TheVariants as command;
 ghost use Rattle.corten_run.specs.declared.ending.Ending.{Ending};
@@ -24,7 +25,7 @@ use byte_streams::{ReadWhole, read_whole, write_whole};
 use corten_base::{Sink, Source};
 use std::alloc::Global;
 
-const USAGE: &[u8] = b"usage: cortenmm solo | check | run | load N K | tlb\n";
+const USAGE: &[u8] = b"usage: cortenmm solo [5] | check | run [5] | load N K | tlb\n";
 
 /// Reads a source whole, and answers what was read.
 fn serve<S: Source, K: Sink>(
@@ -42,8 +43,10 @@ fn serve<S: Source, K: Sink>(
       write_faults = K.faults sink.old;
       write_faults_now = K.faults sink.new;
     }) result) }
-    ensures read_fault { result ≡ Ending.ReadFailed → Rises (S.faults source.old) (S.faults source.new) × (sink.new ≡ sink.old) }
-    ensures write_fault { result ≡ Ending.WriteFailed → Rises (K.faults sink.old) (K.faults sink.new) }
+    ensures read_fault { result ≡ Ending.ReadFailed
+        → Rises (S.faults source.old) (S.faults source.new) × (sink.new ≡ sink.old) }
+    ensures write_fault { result ≡ Ending.WriteFailed
+        → Rises (K.faults sink.old) (K.faults sink.new) }
     ensures words { result ≢ Ending.Usage }
     ensures illegal { result ≡ Ending.Illegal → command ≡ Command.Check }
 {
@@ -66,7 +69,8 @@ pub fn corten_plain<S: Source, K: Sink>(
     sink: &mut K,
 ) -> u8
     // Other words are answered by the usage line, and nothing is read.
-    ensures usage { (result ≡ 2) ↔ ((command : Command) → ¬ (Names (map string_bytes words.now) command)) }
+    ensures usage { (result ≡ 2) ↔ ((command : Command)
+        → ¬ (Names (map string_bytes words.now) command)) }
     ensures unread { result ≡ 2 → source.new ≡ source.old }
     ensures usage_said { result ≡ 2 → IsSaid (record {
       left_now = S.left source.new;
@@ -78,7 +82,8 @@ pub fn corten_plain<S: Source, K: Sink>(
       write_faults_now = K.faults sink.new;
     }) usage_line }
     // Right words: what was read and what was written, where the source and the sink tell it.
-    ensures told { (command : Command) → Names (map string_bytes words.now) command → IfSome (S.left source.old) (λ bytes.
+    ensures told { (command : Command) → Names (map string_bytes words.now) command
+        → IfSome (S.left source.old) (λ bytes.
         (ending : Ending) × (result ≡ status_of ending) × CommandEnds command bytes (record {
           left_now = S.left source.new;
           read_faults = S.faults source.old;
@@ -89,24 +94,39 @@ pub fn corten_plain<S: Source, K: Sink>(
           write_faults_now = K.faults sink.new;
         }) ending) }
     // A fault of a device has its count.
-    ensures read_fault { result ≡ 3 → Rises (S.faults source.old) (S.faults source.new) × (sink.new ≡ sink.old) }
+    ensures read_fault { result ≡ 3
+        → Rises (S.faults source.old) (S.faults source.new) × (sink.new ≡ sink.old) }
     ensures write_fault { result ≡ 4 → Rises (K.faults sink.old) (K.faults sink.new) }
     // A script within its length is answered by its history, unless a device fails or memory is wanted.
-    ensures complete { (script : Script) → Names (map string_bytes words.now) command.Solo → ¬ (Rises (S.faults source.old) (S.faults source.new))
+    ensures complete { (levels : Levels) (script : Script)
+        → Names (map string_bytes words.now) (command.Solo levels)
+        → ¬ (Rises (S.faults source.old) (S.faults source.new))
         → ¬ (Rises (K.faults sink.old) (K.faults sink.new))
-        → IfSome (S.left source.old) (λ bytes. IsScriptText bytes script → length bytes ≤ definitions.greatest_length command.Solo → (result ≡ 0) ⊎ (result ≡ 5)) }
+        → IfSome (S.left source.old) (λ bytes. IsScriptText bytes script
+        → length bytes ≤ definitions.greatest_length (command.Solo levels)
+        → (result ≡ 0) ⊎ (result ≡ 5)) }
     // A history within its length is answered by what is found of it.
-    ensures judges { (history : History) (verdict : Verdict) → Names (map string_bytes words.now) command.Check → ¬ (Rises (S.faults source.old) (S.faults source.new))
+    ensures judges { (history : History) (verdict : Verdict)
+        → Names (map string_bytes words.now) command.Check
+        → ¬ (Rises (S.faults source.old) (S.faults source.new))
         → ¬ (Rises (K.faults sink.old) (K.faults sink.new))
-        → IfSome (S.left source.old) (λ bytes. IsHistoryText bytes history → length bytes ≤ definitions.greatest_length command.Check → IsVerdict history verdict
+        → IfSome (S.left source.old) (λ bytes. IsHistoryText bytes history
+        → length bytes ≤ definitions.greatest_length command.Check
+        → IsVerdict history verdict
         → (result ≡ status_of (ending_of verdict)) ⊎ (result ≡ 5)) }
     // Events within their length are answered.
-    ensures answers_events { Names (map string_bytes words.now) command.Tlb → ¬ (Rises (S.faults source.old) (S.faults source.new))
+    ensures answers_events { Names (map string_bytes words.now) command.Tlb
+        → ¬ (Rises (S.faults source.old) (S.faults source.new))
         → ¬ (Rises (K.faults sink.old) (K.faults sink.new))
-        → IfSome (S.left source.old) (λ bytes. IsEventText bytes → length bytes ≤ definitions.greatest_length command.Tlb → (result ≡ 0) ⊎ (result ≡ 5)) }
+        → IfSome (S.left source.old) (λ bytes. IsEventText bytes
+        → length bytes ≤ definitions.greatest_length command.Tlb
+        → (result ≡ 0) ⊎ (result ≡ 5)) }
     // Other bytes are refused.
-    ensures refuses { (command : Command) → Names (map string_bytes words.now) command → ¬ (Rises (S.faults source.old) (S.faults source.new))
-        → IfSome (S.left source.old) (λ bytes. (length bytes ≤ definitions.greatest_length command → IsNoText command bytes) → (result ≡ 1) ⊎ (result ≡ 5)) }
+    ensures refuses { (command : Command) → Names (map string_bytes words.now) command
+        → ¬ (Rises (S.faults source.old) (S.faults source.new))
+        → IfSome (S.left source.old) (λ bytes.
+        (length bytes ≤ definitions.greatest_length command → IsNoText command bytes)
+        → (result ≡ 1) ⊎ (result ≡ 5)) }
     // What is found not to be legal is a history.
     ensures illegal { result ≡ 6 → Names (map string_bytes words.now) command.Check }
     ensures status { result ≤ 6 }

@@ -2,11 +2,15 @@
 --     lies_past_end      whether a page is a file's, past the file's end
 --     refusal      what the access is refused for
 --     takes_frame      whether the access takes a frame
+--     comes_from      what the page came from, once it is touched
 use Rattle.std.specs.Prelude.{ℕ, ◌*◌, Bool, true, false, List, Option, Some, None}
 use Rattle.corten_base.specs.declared.calls.Reply.{Reply}
 use Rattle.corten_base.specs.declared.calls.Reply.TheVariants as reply
+use Rattle.corten_base.specs.declared.calls.Backing.{Backing}
+use Rattle.corten_base.specs.declared.calls.Backing.TheVariants as backing
 use Rattle.page_map.specs.declared.cell.Cell.{Cell}
-use Rattle.page_map.specs.Cell.{is_past_end}
+use Rattle.page_map.specs.declared.cell.Cell.TheVariants.{File}
+use Rattle.page_map.specs.Cell.{is_past_end, backing_of}
 use Rattle.fault_plan.specs.declared.rule.Decision.{Decision}
 use Rattle.fault_plan.specs.declared.rule.Decision.TheVariants.{Ready, ZeroFill, FromFile, CopyOut, TakeOver, SwapIn, Segv, Denied, Bus}
 
@@ -35,3 +39,9 @@ takes_frame TakeOver = false
 takes_frame Segv = false
 takes_frame Denied = false
 takes_frame Bus = false
+
+-- A page that was not touched before came from zeros or from its file, and any other from what it came from before.
+abbrev pub comes_from : Decision → Cell → Backing
+comes_from ZeroFill cell = backing.Zero
+comes_from FromFile (File perm file index) = backing.File file index
+comes_from decision cell = backing_of cell

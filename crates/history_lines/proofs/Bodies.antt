@@ -5,19 +5,20 @@ use Rattle.std.specs.List.{All}
 use Rattle.std.proofs.lemmas.List.{map_push, append-nil, append_assoc, length-append}
 use Rattle.std.proofs.lemmas.List.Elements.{All-push}
 use Rattle.corten_base.specs.declared.calls.Entry.{Entry}
-use Rattle.corten_base.specs.declared.numbers.Limits.{Limits}
 use Rattle.corten_base.specs.declared.numbers.Accounts.{Accounts}
-use Rattle.text_words.specs.Layout.{IsLine, words_of, text, TextRest}
+use Rattle.text_words.specs.Layout.{IsLine, words_of, ended, text, TextRest}
 use Rattle.text_words.specs.Passing.{Passes, FaultFrom}
 use Rattle.text_words.proofs.Passing.{Passes-append, FaultFrom-behind, fault_at_line, fault_at_end}
-use Rattle.mm_script.specs.ScriptText.{file_line, file_lines, AreLimits, IsFile, AreFiles}
+use Rattle.mm_script.specs.ScriptText.{file_line, file_lines, IsFile, AreFiles}
+use Rattle.history_lines.specs.declared.header.Header.{Header}
 use Rattle.history_lines.specs.declared.history.History.{History}
 use Rattle.history_lines.specs.declared.counts.Counts.{Counts}
-use Rattle.history_lines.specs.Accounting.{header_lines, counts_words, frames_line, swap_line, tables_line, frames_counts, swap_counts, tables_counts, AreCounts}
+use Rattle.history_lines.specs.Accounting.{levels_line, head_lines, header_lines, counts_words, frames_line, swap_line, tables_line, frames_counts, swap_counts, tables_counts, IsHeader, AreCounts}
 use Rattle.history_lines.specs.Files.{IsNextFile, NoFileHere}
-use Rattle.history_lines.specs.HistoryText.{entry_line, history_lines, IsEntry, AreHistoryLines, IsHistoryText}
-use Rattle.history_lines.proofs.CountLines.{IsNoEntry}
-use Rattle.history_lines.proofs.Beginnings.{Begins-entries, no_body, wants_accounts}
+use Rattle.history_lines.specs.HistoryText.{entry_line, history_lines, IsEntryOf, AreHistoryLines, IsHistoryText}
+use Rattle.history_lines.specs.Reading.{HasNoLevels}
+use Rattle.history_lines.proofs.CountLines.{IsNoEntryOf}
+use Rattle.history_lines.proofs.Beginnings.{LeavesNoLevels, Begins-entries, no_body, wants_accounts}
 
 -- what a reader says where it found none
 pub at_none : (r : Option Entry) (P : Type 0) → ((e : Entry) → r ≢ Some e) → IfNone r P → P
@@ -54,43 +55,72 @@ body_ends old mid new fs es f passed next =
     subst (Passes old new) (append_assoc (file_lines fs) (map entry_line es) (frames_line f ∷ []))
     (Passes-append old mid new (file_lines fs ++ map entry_line es) (frames_line f ∷ []) passed next)
 
-pub body_fault : (old mid new : TextRest) (limits : Limits) (fs : List (List ℕ)) (es : List Entry) (line : List ℕ) → AreLimits limits → AreFiles fs → All IsEntry es → Passes old mid (file_lines fs ++ map entry_line es)
-    → Passes mid new (line ∷ []) → NoFileHere fs es line → IsNoEntry line
-    → ((c : Counts) → AreCounts c → words_of line ≢ counts_words (codes "frames") (codes "free") (codes "mapped") c) → FaultFrom AreHistoryLines old (header_lines limits []) new.taken
-body_fault old mid new limits fs es line hl hfs he passed next no_file none no_frames =
-    FaultFrom-behind AreHistoryLines old mid (header_lines limits []) (file_lines fs ++ map entry_line es) new.taken passed
-    (fault_at_line AreHistoryLines mid new (header_lines limits fs ++ map entry_line es) line next (Begins-entries limits fs es hl hfs he) (no_body limits fs es line hfs he no_file none no_frames))
+-- the first line of some bytes
+first_is_other : (old new : TextRest) (lines more : List (List ℕ)) (line : List ℕ) → Passes old new lines → lines ≢ [] → ((rest : List ℕ) → old.bytes ≢ ended line ++ rest) → (others : List (List ℕ)) → lines ++ more ≢ line ∷ others
+first_is_other old new [] more line passed some other others same = some refl
+first_is_other old new (l ∷ lines) more line passed some other others same =
+    let first : l ≡ line = cc in
+    other (text lines ++ new.bytes) (passed.parted ∙ append_assoc (ended l) (text lines) new.bytes ∙ ap (λ k. ended k ++ (text lines ++ new.bytes)) first)
 
-pub end_fault : (old mid : TextRest) (limits : Limits) (fs : List (List ℕ)) (es : List Entry) → AreLimits limits → AreFiles fs → All IsEntry es → Passes old mid (file_lines fs ++ map entry_line es) → IsLine mid.bytes
-    → FaultFrom AreHistoryLines old (header_lines limits []) (mid.taken + 1)
-end_fault old mid limits fs es hl hfs he passed ends =
-    FaultFrom-behind AreHistoryLines old mid (header_lines limits []) (file_lines fs ++ map entry_line es) (mid.taken + 1) passed
-    (fault_at_end AreHistoryLines mid (header_lines limits fs ++ map entry_line es) ends (Begins-entries limits fs es hl hfs he) (wants_accounts limits fs es hfs he))
+some_lines : (xs ys : List (List ℕ)) (line : List ℕ) → (xs ++ ys) ++ line ∷ [] ≢ []
+some_lines [] [] line same = cc
+some_lines [] (y ∷ ys) line same = cc
+some_lines (x ∷ xs) ys line same = cc
+
+-- where no line of levels went on, none is still to come
+leaves_no_levels : (old mid new : TextRest) (head : Header) (fs : List (List ℕ)) (es : List Entry) (line : List ℕ) → HasNoLevels head.version head.limits.levels old.bytes → Passes old mid (file_lines fs ++ map entry_line es)
+    → Passes mid new (line ∷ []) → (xs : List (List ℕ)) → LeavesNoLevels head (file_lines fs ++ (map entry_line es ++ line ∷ xs))
+leaves_no_levels old mid new head fs es line none passed next xs version levels others same =
+    let passed_all = Passes-append old mid new (file_lines fs ++ map entry_line es) (line ∷ []) passed next in
+    let shape : ((file_lines fs ++ map entry_line es) ++ line ∷ []) ++ xs ≡ file_lines fs ++ (map entry_line es ++ line ∷ xs) =
+    append_assoc (file_lines fs ++ map entry_line es) (line ∷ []) xs ∙ append_assoc (file_lines fs) (map entry_line es) (line ∷ xs) in
+    first_is_other old new ((file_lines fs ++ map entry_line es) ++ line ∷ []) xs levels_line passed_all (some_lines (file_lines fs) (map entry_line es) line) (none version levels) others (shape ∙ same)
+
+-- the files and the entries stand behind the version and the limits
+behind_head_lines : (head : Header) (fs : List (List ℕ)) (es : List Entry) (old : TextRest) (n : ℕ) → FaultFrom AreHistoryLines old (header_lines head fs ++ map entry_line es) n → FaultFrom AreHistoryLines old (head_lines head ++ (file_lines fs ++ map entry_line es)) n
+behind_head_lines head fs es old n fault = subst (λ ls. FaultFrom AreHistoryLines old ls n) (append_assoc (head_lines head) (file_lines fs) (map entry_line es)) fault
+
+pub body_fault : (old mid new : TextRest) (head : Header) (fs : List (List ℕ)) (es : List Entry) (line : List ℕ) → IsHeader head → AreFiles fs → All (IsEntryOf head.version) es → HasNoLevels head.version head.limits.levels old.bytes
+    → Passes old mid (file_lines fs ++ map entry_line es) → Passes mid new (line ∷ []) → NoFileHere fs es line → IsNoEntryOf head.version line
+    → ((c : Counts) → AreCounts c → words_of line ≢ counts_words (codes "frames") (codes "free") (codes "mapped") c) → FaultFrom AreHistoryLines old (head_lines head) new.taken
+body_fault old mid new head fs es line hh hfs he no_levels passed next no_file none no_frames =
+    FaultFrom-behind AreHistoryLines old mid (head_lines head) (file_lines fs ++ map entry_line es) new.taken passed
+    (behind_head_lines head fs es mid new.taken
+    (fault_at_line AreHistoryLines mid new (header_lines head fs ++ map entry_line es) line next (Begins-entries head fs es hh hfs he)
+    (no_body head fs es line hh hfs he no_file none (leaves_no_levels old mid new head fs es line no_levels passed next) no_frames)))
+
+pub end_fault : (old mid : TextRest) (head : Header) (fs : List (List ℕ)) (es : List Entry) → IsHeader head → AreFiles fs → All (IsEntryOf head.version) es → Passes old mid (file_lines fs ++ map entry_line es) → IsLine mid.bytes
+    → FaultFrom AreHistoryLines old (head_lines head) (mid.taken + 1)
+end_fault old mid head fs es hh hfs he passed ends =
+    FaultFrom-behind AreHistoryLines old mid (head_lines head) (file_lines fs ++ map entry_line es) (mid.taken + 1) passed
+    (behind_head_lines head fs es mid (mid.taken + 1)
+    (fault_at_end AreHistoryLines mid (header_lines head fs ++ map entry_line es) ends (Begins-entries head fs es hh hfs he) (wants_accounts head fs es hh hfs he)))
 
 -- a history whose lines were all passed
-module _ (bytes : List ℕ) (old mid last new : TextRest) (limits : Limits) (fs : List (List ℕ)) (es : List Entry) (f s t : Counts) (a : Accounts) (are : old.bytes ≡ bytes) (hl : AreLimits limits) (hfs : AreFiles fs) (he : All IsEntry es) (hf : AreCounts f) (hs : AreCounts s) (ht : AreCounts t)
-    (first : Passes old mid (header_lines limits [])) (body : Passes mid last (file_lines fs ++ (map entry_line es ++ frames_line f ∷ []))) (ends : Passes last new (swap_line s ∷ tables_line t ∷ [])) (done : new.bytes ≡ [])
+module _ (bytes : List ℕ) (old mid last new : TextRest) (head : Header) (fs : List (List ℕ)) (es : List Entry) (f s t : Counts) (a : Accounts) (are : old.bytes ≡ bytes) (hh : IsHeader head) (hfs : AreFiles fs) (he : All (IsEntryOf head.version) es) (hf : AreCounts f) (hs : AreCounts s) (ht : AreCounts t)
+    (first : Passes old mid (head_lines head)) (body : Passes mid last (file_lines fs ++ (map entry_line es ++ frames_line f ∷ []))) (ends : Passes last new (swap_line s ∷ tables_line t ∷ [])) (done : new.bytes ≡ [])
     (frames : frames_counts a ≡ f) (swap : swap_counts a ≡ s) (tables : tables_counts a ≡ t) where
   abbrev passed_history : History
-  passed_history = record { limits = limits; shelf = fs; entries = es; accounts = a }
+  passed_history = record { version = head.version; limits = head.limits; shelf = fs; entries = es; accounts = a }
 
   abbrev lines : List (List ℕ)
-  lines = (header_lines limits fs ++ (map entry_line es ++ frames_line f ∷ [])) ++ swap_line s ∷ tables_line t ∷ []
+  lines = (header_lines head fs ++ (map entry_line es ++ frames_line f ∷ [])) ++ swap_line s ∷ tables_line t ∷ []
 
   passed_lines : lines ≡ history_lines passed_history
   passed_lines =
-      append_assoc (header_lines limits fs) (map entry_line es ++ frames_line f ∷ []) (swap_line s ∷ tables_line t ∷ [])
-      ∙ ap (λ ls. header_lines limits fs ++ ls) (append_assoc (map entry_line es) (frames_line f ∷ []) (swap_line s ∷ tables_line t ∷ []))
-      ∙ (λ i. header_lines limits fs ++ (map entry_line es ++ frames_line (sym frames i) ∷ swap_line (sym swap i) ∷ tables_line (sym tables i) ∷ []))
+      append_assoc (header_lines head fs) (map entry_line es ++ frames_line f ∷ []) (swap_line s ∷ tables_line t ∷ [])
+      ∙ ap (λ ls. header_lines head fs ++ ls) (append_assoc (map entry_line es) (frames_line f ∷ []) (swap_line s ∷ tables_line t ∷ []))
+      ∙ (λ i. header_lines head fs ++ (map entry_line es ++ frames_line (sym frames i) ∷ swap_line (sym swap i) ∷ tables_line (sym tables i) ∷ []))
 
   pub history_passed : IsHistoryText bytes passed_history
   history_passed =
-      let front : Passes old last (header_lines limits fs ++ (map entry_line es ++ frames_line f ∷ [])) =
-      Passes-append old mid last (header_lines limits []) (file_lines fs ++ (map entry_line es ++ frames_line f ∷ [])) first body in
-      let all = Passes-append old last new (header_lines limits fs ++ (map entry_line es ++ frames_line f ∷ [])) (swap_line s ∷ tables_line t ∷ []) front ends in
+      let front : Passes old last (header_lines head fs ++ (map entry_line es ++ frames_line f ∷ [])) =
+      subst (Passes old last) (sym (append_assoc (head_lines head) (file_lines fs) (map entry_line es ++ frames_line f ∷ [])))
+      (Passes-append old mid last (head_lines head) (file_lines fs ++ (map entry_line es ++ frames_line f ∷ [])) first body) in
+      let all = Passes-append old last new (header_lines head fs ++ (map entry_line es ++ frames_line f ∷ [])) (swap_line s ∷ tables_line t ∷ []) front ends in
       record {
         has_text = record {
-          limits = hl;
+          head = hh;
           files = hfs;
           entries = he;
           accounts = record { frames = subst AreCounts (sym frames) hf; swap = subst AreCounts (sym swap) hs; tables = subst AreCounts (sym tables) ht };

@@ -7,6 +7,7 @@ use Rattle.std.proofs.lemmas.List.FromFn.{length-range_with_len}
 use Rattle.std.proofs.lemmas.List.Elements.{All-weaker}
 use Rattle.corten_base.specs.declared.calls.Entry.{Entry}
 use Rattle.corten_base.specs.declared.calls.Call.{Call}
+use Rattle.corten_base.specs.declared.calls.Call.TheVariants as call
 use Rattle.corten_base.specs.declared.numbers.Limits.{Limits}
 use Rattle.corten_base.specs.declared.numbers.Accounts.{Accounts}
 use Rattle.page_map.specs.State.{State, start, accounts, linked, unused, frame_owners, slot_owners, IsConsistent}
@@ -18,9 +19,10 @@ use Rattle.page_map.proofs.Start.{start_is_consistent}
 use Rattle.page_map.proofs.Bytewise.{keeps_along}
 use Rattle.page_map.proofs.Recalled.{each_of}
 use Rattle.mm_script.specs.ScriptText.{AreLimits, AreFiles}
+use Rattle.history_lines.specs.declared.header.Header.{Header}
 use Rattle.history_lines.specs.declared.history.History.{History}
-use Rattle.history_lines.specs.Accounting.{frames_counts, swap_counts, AreAccounts}
-use Rattle.history_lines.specs.HistoryText.{IsEntry, HasText}
+use Rattle.history_lines.specs.Accounting.{frames_counts, swap_counts, HasLevels, IsHeader, AreAccounts}
+use Rattle.history_lines.specs.HistoryText.{since, IsEntry, IsEntryOf, HasText}
 use Rattle.history_lines.specs.Checking.{AreRight, IsLegalHistory}
 use Rattle.history_lines.specs.Wrong.{AreTablesRight}
 
@@ -44,10 +46,16 @@ final limits files es = after (start limits files) es
 pub final_limits : (limits : Limits) (files : List (List ℕ)) (es : List Entry) → (final limits files es).limits ≡ limits
 final_limits limits files es = after_limits (start limits files) es ∙ start_limits limits files
 
-pub final_is_consistent : (limits : Limits) (files : List (List ℕ)) (es : List Entry) → AreLimits limits → All IsEntry es → IsConsistent (final limits files es)
-final_is_consistent limits files es hl he =
-    keeps_along (start limits files) es (each_of (λ (e : Entry). e.thread < 8) es (All-weaker IsEntry (λ (e : Entry). e.thread < 8) (λ e h. omega (arith, h.thread.1)) es he))
-    (start_is_consistent limits files hl.tables.0)
+-- four levels or five
+pub few_levels : (v l : ℕ) → HasLevels v l → (4 ≤ l) × (l ≤ 5)
+few_levels v l (HasLevels.four is) = (omega (arith, is), omega (arith, is))
+few_levels v l (HasLevels.five is version) = (omega (arith, is), omega (arith, is))
+
+pub final_is_consistent : (head : Header) (files : List (List ℕ)) (es : List Entry) → IsHeader head → All (IsEntryOf head.version) es → IsConsistent (final head.limits files es)
+final_is_consistent head files es hh he =
+    let levels = few_levels head.version head.limits.levels hh.levels in
+    keeps_along (start head.limits files) es (each_of (λ (e : Entry). e.thread < 8) es (All-weaker (IsEntryOf head.version) (λ (e : Entry). e.thread < 8) (λ e h. omega (arith, h.entry.thread.1)) es he))
+    (start_is_consistent head.limits files levels.0 levels.1 hh.limits.tables.0)
 
 pub few_unused : (owners : ℕ → ℕ) (limit : ℕ) → length (unused owners limit) ≤ limit
 few_unused owners limit =
@@ -70,23 +78,39 @@ accounts_fit st ok h =
     }
 
 -- a legal list of entries with the accounts that belong to it
-abbrev pub closed : Limits → List (List ℕ) → List Entry → History
-closed limits files es = record { limits = limits; shelf = files; entries = es; accounts = accounts (final limits files es) 0 }
+abbrev pub closed : Header → List (List ℕ) → List Entry → History
+closed head files es = record { version = head.version; limits = head.limits; shelf = files; entries = es; accounts = accounts (final head.limits files es) 0 }
 
-pub closed_has_text : (limits : Limits) (files : List (List ℕ)) (es : List Entry) → AreLimits limits → AreFiles files → All IsEntry es → HasText (closed limits files es)
-closed_has_text limits files es hl hfs he = record {
-  limits = hl;
+pub closed_has_text : (head : Header) (files : List (List ℕ)) (es : List Entry) → IsHeader head → AreFiles files → All (IsEntryOf head.version) es → HasText (closed head files es)
+closed_has_text head files es hh hfs he = record {
+  head = hh;
   files = hfs;
   entries = he;
-  accounts = accounts_fit (final limits files es) (final_is_consistent limits files es hl he) (subst AreLimits (sym (final_limits limits files es)) hl);
+  accounts = accounts_fit (final head.limits files es) (final_is_consistent head files es hh he) (subst AreLimits (sym (final_limits head.limits files es)) hh.limits);
 }
 
 pub own_accounts : (st : State) → IsConsistent st → AreRight st (accounts st 0)
 unfolding accounts
 own_accounts st ok = record { counts = refl; fits = let tables : linked st ≤ st.limits.tables = ok.tables in omega (arith, tables) }
 
-pub closed_is_legal : (limits : Limits) (files : List (List ℕ)) (es : List Entry) → AreLimits limits → All IsEntry es → IsHistory limits files es → IsLegalHistory (closed limits files es)
-closed_is_legal limits files es hl he legal = record { entries = legal; accounts = own_accounts (final limits files es) (final_is_consistent limits files es hl he) }
+pub closed_is_legal : (head : Header) (files : List (List ℕ)) (es : List Entry) → IsHeader head → All (IsEntryOf head.version) es → IsHistory head.limits files es → IsLegalHistory (closed head files es)
+closed_is_legal head files es hh he legal = record { entries = legal; accounts = own_accounts (final head.limits files es) (final_is_consistent head files es hh he) }
+
+-- version 2 has every call
+since_known : (c : Call) → since c ≤ 2
+since_known (call.DontNeed space at len) = omega arith
+since_known (call.Remap space at old_len new_len) = omega arith
+since_known _ = omega arith
+
+pub entry_of_two : (e : Entry) → IsEntry e → IsEntryOf 2 e
+entry_of_two e h = record { entry = h; known = since_known e.call }
+
+-- the answered calls of any version
+pub entries_of_any : (v : ℕ) (es : List Entry) → All (IsEntryOf v) es → All IsEntry es
+entries_of_any v es h = All-weaker (IsEntryOf v) IsEntry (λ e is. is.entry) es h
+
+pub entries_of_two : (es : List Entry) → All IsEntry es → All (IsEntryOf 2) es
+entries_of_two es h = All-weaker IsEntry (IsEntryOf 2) entry_of_two es h
 
 -- accounts that are right line by line are right, and the other way round
 pub right_accounts : (st : State) (a : Accounts) → frames_counts a ≡ frames_counts (accounts st 0) → swap_counts a ≡ swap_counts (accounts st 0) → AreTablesRight st a → AreRight st a

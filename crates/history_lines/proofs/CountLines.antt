@@ -1,23 +1,24 @@
 -- Lines of three numbers, each behind its word, and the lines of limits.
-use Rattle.std.proofs.Common.{◌≡◌, ◌≢◌, ℕ, ◌<◌, ◌≤◌, true, not, eqb, ltb, eq-eqb, List, [], ◌∷◌, codes, refl, sym, ap, subst, ◌∙◌, arith}
+use Rattle.std.proofs.Common.{◌≡◌, ◌≢◌, ℕ, ◌<◌, ◌≤◌, Bool, true, false, not, eqb, ltb, List, [], ◌∷◌, codes, refl, sym, ap, subst, ◌∙◌, arith}
+use Rattle.std.specs.Prelude.{◌==◌, ◌&&◌, if◌then◌else◌}
 use Rattle.std.specs.List.{All, list_all}
-use Rattle.std.proofs.lemmas.Bool.{and_parts, false≢true}
+use Rattle.std.proofs.lemmas.Bool.{false≢true}
 use Rattle.std.proofs.lemmas.Bool.Decides.{nat_tests}
-use Rattle.std.proofs.lemmas.List.Elements.{All-nil, All-cons, All-head, All-tail}
+use Rattle.std.proofs.lemmas.List.Elements.{All-nil, All-cons, All-head, All-tail, All-append}
 use Rattle.corten_base.specs.declared.calls.Entry.{Entry}
-use Rattle.corten_base.specs.declared.numbers.Limits.{Limits}
 use Rattle.text_words.specs.Layout.{HasNo, IsLine, joined, words_of}
 use Rattle.text_words.specs.Spelling.{number}
 use Rattle.text_words.proofs.OneValue.{number_injective}
 use Rattle.text_words.proofs.SpelledBytes.{IsNoDigit, IsNoDigit-below, HasNo-number, HasNo-joined}
 use Rattle.text_words.proofs.WordLists.{joined-words_of, words_of-joined}
-use Rattle.mm_script.specs.ScriptText.{limit_words, file_line, file_lines, AreLimits, IsFile, AreFiles}
+use Rattle.mm_script.specs.ScriptText.{limit_words, file_line, file_lines, IsFile, AreFiles}
 use Rattle.mm_script.proofs.FileLines.{file_line_IsLine}
 use Rattle.mm_script.proofs.OneCall.{HasNo_letters}
 use Rattle.history_lines.specs.declared.counts.Counts.{Counts}
+use Rattle.history_lines.specs.declared.header.Header.{Header}
 use Rattle.history_lines.specs.Replies.{IsCount}
-use Rattle.history_lines.specs.Accounting.{version_line, header_lines, counts_words, frames_line, AreCounts}
-use Rattle.history_lines.specs.HistoryText.{entry_line, entry_words, IsEntry}
+use Rattle.history_lines.specs.Accounting.{version_line, levels_line, levels_lines, head_lines, header_lines, counts_words, frames_line, IsHeader, AreCounts}
+use Rattle.history_lines.specs.HistoryText.{entry_line, entry_words, IsEntry, IsEntryOf}
 use Rattle.history_lines.proofs.OneEntry.{words_of-entry_line}
 
 -- a line with these words is these words joined
@@ -82,20 +83,27 @@ tables_names = record { one = refl; two = refl; three = refl }
 abbrev pub IsNoEntry : List ℕ → Type 0
 IsNoEntry line = (e : Entry) → IsEntry e → line ≢ entry_line e
 
--- the letter s is in the word `frames` and in no number
-no_digit_s : IsNoDigit 115
+-- a line that is no entry's in a version
+abbrev pub IsNoEntryOf : ℕ → List ℕ → Type 0
+IsNoEntryOf version line = (e : Entry) → IsEntryOf version e → line ≢ entry_line e
+
+-- the letter s is in the words `frames` and `levels`, and in no number
+pub no_digit_s : IsNoDigit 115
 no_digit_s d small is = grind (arith, nat_tests)
 
-no_s : (word : List ℕ) → HasNo 115 word → word ≢ codes "frames"
-no_s word h is =
-    let Q : ℕ → Type 0 = λ b. b ≢ 115 in
-    let all : All Q (102 ∷ 114 ∷ 97 ∷ 109 ∷ 101 ∷ 115 ∷ []) = subst (HasNo 115) is h in
-    let t1 = All-tail Q 102 (114 ∷ 97 ∷ 109 ∷ 101 ∷ 115 ∷ []) all in
-    let t2 = All-tail Q 114 (97 ∷ 109 ∷ 101 ∷ 115 ∷ []) t1 in
-    let t3 = All-tail Q 97 (109 ∷ 101 ∷ 115 ∷ []) t2 in
-    let t4 = All-tail Q 109 (101 ∷ 115 ∷ []) t3 in
-    let t5 = All-tail Q 101 (115 ∷ []) t4 in
-    All-head Q 115 [] t5 refl
+tested : (byte : ℕ) (bytes : List ℕ) → HasNo byte bytes → list_all (λ b. not (eqb b byte)) bytes ≡ true
+tested byte [] h = refl
+tested byte (b ∷ bytes) h = go (eqb b byte) refl (tested byte bytes (All-tail (λ c. c ≢ byte) b bytes h))
+  where
+    go : (t : Bool) → eqb b byte ≡ t → list_all (λ c. not (eqb c byte)) bytes ≡ true → list_all (λ c. not (eqb c byte)) (b ∷ bytes) ≡ true
+    go true is rest = let same : b ≡ byte = grind (arith, nat_tests) in absurd (All-head (λ c. c ≢ byte) b bytes h same)
+    go false is rest = ap (λ t. not t && list_all (λ c. not (eqb c byte)) bytes) is ∙ rest
+
+-- no thread's word is a word with a letter that is no digit
+pub no_thread : (byte : ℕ) (e : Entry) (name : List ℕ) → IsNoDigit byte → IsEntry e → list_all (λ b. not (eqb b byte)) name ≡ false → number e.thread ≢ name
+no_thread byte e name no_digit h has is =
+    let none : HasNo byte name = subst (HasNo byte) is (HasNo-number byte e.thread (omega (arith, h.thread.1)) no_digit) in
+    false≢true (sym has ∙ tested byte name none)
 
 same_first : (a b : List ℕ) (x y : List (List ℕ)) → a ∷ x ≡ b ∷ y → a ≡ b
 same_first a b x y same = cc
@@ -104,7 +112,7 @@ pub frames_line_no_entry : (c : Counts) → AreCounts c → IsNoEntry (frames_li
 frames_line_no_entry c h e is_entry is =
     let words : entry_words e ≡ counts_words (codes "frames") (codes "free") (codes "mapped") c =
     sym (words_of-entry_line e is_entry) ∙ ap words_of (sym is) ∙ words_of-counts (codes "frames") (codes "free") (codes "mapped") c frames_names h in
-    no_s (number e.thread) (HasNo-number 115 e.thread (omega (arith, is_entry.thread.1)) no_digit_s) (same_first (number e.thread) (codes "frames") _ _ words)
+    no_thread 115 e (codes "frames") no_digit_s is_entry refl (same_first (number e.thread) (codes "frames") _ _ words)
 
 -- the lines of the header
 limit_words_have_no : (byte : ℕ) (name : List ℕ) (n : ℕ) → byte < 45 → list_all (λ b. ltb 96 b) name ≡ true → n ≤ 4096 → All (HasNo byte) (limit_words name n)
@@ -126,23 +134,38 @@ limit_line_injective name m n letters hm hn same =
     number_injective m n (omega arith) (omega arith)
     (same_second name (number m) name (number n) [] [] (sym (words_of-limit name m letters hm) ∙ ap words_of same ∙ words_of-limit name n letters hn))
 
-has_no : (byte : ℕ) (bytes : List ℕ) → list_all (λ b. not (eqb b byte)) bytes ≡ true → HasNo byte bytes
-has_no byte [] h = All-nil (λ b. b ≢ byte)
-has_no byte (b ∷ bytes) h =
-    let parts = and_parts (not (eqb b byte)) (list_all (λ c. not (eqb c byte)) bytes) h in
-    All-cons (λ c. c ≢ byte) b bytes (λ same. false≢true (sym (ap not (eq-eqb b byte same)) ∙ parts.0)) (has_no byte bytes parts.1)
-
 files_are_lines : (files : List (List ℕ)) → All IsFile files → All IsLine (file_lines files)
 files_are_lines [] h = All-nil IsLine
 files_are_lines (f ∷ files) h = All-cons IsLine (file_line f) (file_lines files) (file_line_IsLine f (All-head IsFile f files h)) (files_are_lines files (All-tail IsFile f files h))
 
-pub header_are_lines : (limits : Limits) (files : List (List ℕ)) → AreLimits limits → AreFiles files → All IsLine (header_lines limits files)
-header_are_lines limits files h hf =
+-- the line of five levels
+levels_words_have_no : (byte : ℕ) → byte < 45 → All (HasNo byte) (codes "levels" ∷ codes "5" ∷ [])
+levels_words_have_no byte low =
+    let five : HasNo byte (codes "5") = All-cons (λ b. b ≢ byte) 53 [] (λ is. omega arith) (All-nil (λ b. b ≢ byte)) in
+    All-cons (HasNo byte) (codes "levels") (codes "5" ∷ []) (HasNo_letters byte (codes "levels") low refl) (All-cons (HasNo byte) (codes "5") [] five (All-nil (HasNo byte)))
+
+pub words_of-levels : words_of levels_line ≡ codes "levels" ∷ codes "5" ∷ []
+words_of-levels = words_of-joined (codes "levels" ∷ codes "5" ∷ []) (λ e. cc) (levels_words_have_no 32 (omega arith))
+
+pub levels_IsLine : IsLine levels_line
+levels_IsLine = HasNo-joined 10 (codes "levels" ∷ codes "5" ∷ []) (λ e. omega arith) (levels_words_have_no 10 (omega arith))
+
+levels_are_lines : (levels : ℕ) → All IsLine (levels_lines levels)
+levels_are_lines levels =
+    let one : All IsLine (levels_line ∷ []) = All-cons IsLine levels_line [] levels_IsLine (All-nil IsLine) in
+    elim (levels == 5) as (λ b. All IsLine (if b then levels_line ∷ [] else [])) [ true ↦ one | false ↦ All-nil IsLine ]
+
+pub header_are_lines : (head : Header) (files : List (List ℕ)) → IsHeader head → AreFiles files → All IsLine (header_lines head files)
+header_are_lines head files h hf =
+    let limits = head.limits in
+    let version : List ℕ = version_line head.version in
     let frames : List ℕ = joined (limit_words (codes "frames") limits.frames) in
     let tables : List ℕ = joined (limit_words (codes "tables") limits.tables) in
     let swap : List ℕ = joined (limit_words (codes "swap") limits.swap) in
-    let last : List (List ℕ) = file_lines files in
-    All-cons IsLine version_line (frames ∷ tables ∷ swap ∷ last) (has_no 10 version_line refl)
-    (All-cons IsLine frames (tables ∷ swap ∷ last) (limit_IsLine (codes "frames") limits.frames refl h.frames.1)
-    (All-cons IsLine tables (swap ∷ last) (limit_IsLine (codes "tables") limits.tables refl (omega (arith, h.tables.1)))
-    (All-cons IsLine swap last (limit_IsLine (codes "swap") limits.swap refl h.swap.1) (files_are_lines files hf.each))))
+    let last : List (List ℕ) = levels_lines limits.levels in
+    All-append IsLine (head_lines head) (file_lines files)
+    (All-cons IsLine version (frames ∷ tables ∷ swap ∷ last) (limit_IsLine (codes "corten") head.version refl (omega (arith, h.version.1)))
+    (All-cons IsLine frames (tables ∷ swap ∷ last) (limit_IsLine (codes "frames") limits.frames refl h.limits.frames.1)
+    (All-cons IsLine tables (swap ∷ last) (limit_IsLine (codes "tables") limits.tables refl (omega (arith, h.limits.tables.1)))
+    (All-cons IsLine swap last (limit_IsLine (codes "swap") limits.swap refl h.limits.swap.1) (levels_are_lines limits.levels)))))
+    (files_are_lines files hf.each)

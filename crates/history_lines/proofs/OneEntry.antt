@@ -1,5 +1,5 @@
 -- A line is that of one entry at most, and its words are the entry's.
-use Rattle.std.proofs.Common.{◌≡◌, ◌≢◌, ℕ, ◌<◌, List, [], ◌∷◌, ◌++◌, codes, refl, sym, ap, ◌∙◌, arith}
+use Rattle.std.proofs.Common.{◌≡◌, ◌≢◌, ℕ, ◌<◌, ◌≤◌, List, [], ◌∷◌, ◌++◌, codes, refl, sym, ap, subst, ◌∙◌, arith}
 use Rattle.std.specs.Prelude.{Option, Some, None, IfSome, IfNone}
 use Rattle.std.specs.List.{All}
 use Rattle.std.proofs.lemmas.List.{append-nil, append_assoc}
@@ -17,7 +17,7 @@ use Rattle.mm_script.proofs.CallForms.{other_word}
 use Rattle.mm_script.proofs.OpLines.{joined_spaced, spaced-append}
 use Rattle.mm_script.proofs.OneCall.{one_call, call_words_have_no, ends_before}
 use Rattle.history_lines.specs.Replies.{reply_words, IsReply}
-use Rattle.history_lines.specs.HistoryText.{entry_words, entry_line, IsEntry}
+use Rattle.history_lines.specs.HistoryText.{entry_words, entry_line, since, IsEntry, IsEntryOf}
 use Rattle.history_lines.proofs.OneReply.{one_reply, reply_words_have_no}
 
 -- the same entry, and the same words behind it
@@ -117,6 +117,13 @@ pub entry_line_injective : (a b : Entry) → IsEntry a → IsEntry b → entry_l
 entry_line_injective a b ha hb same =
     let words : entry_words a ≡ entry_words b = sym (words_of-entry_line a ha) ∙ ap words_of same ∙ words_of-entry_line b hb in
     (one_entry a b [] [] ha hb (ap (λ ws. ws ++ []) words)).entries
+
+-- an answered call of a later version is none of this one
+pub later_entry : (version : ℕ) (line : List ℕ) (a : Entry) → IsEntry a → line ≡ entry_line a → version < since a.call → (e : Entry) → IsEntryOf version e → line ≢ entry_line e
+later_entry version line a ha is late e he same =
+    let one : a ≡ e = entry_line_injective a e ha he.entry (sym is ∙ same) in
+    let known : since a.call ≤ version = subst (λ (x : Entry). since x.call ≤ version) (sym one) he.known in
+    omega (arith, late, known)
 
 -- A reader took the words of an entry from the front of a line's words, or found none there; more are left behind them.
 pub record HasTaken (read : Option Entry) (line : List ℕ) (more : List (List ℕ)) : Type 0 where

@@ -10,7 +10,7 @@ use Rattle.text_words.specs.Layout.{ended, text}
 use Rattle.text_words.proofs.LineLists.{text-append}
 use Rattle.history_lines.specs.declared.history.History.{History}
 use Rattle.history_lines.specs.Accounting.{header_lines, account_lines}
-use Rattle.history_lines.specs.HistoryText.{entry_line, lines_of, history_text}
+use Rattle.history_lines.specs.HistoryText.{entry_line, lines_of, head_of, history_text}
 use Rattle.history_lines.specs.Writing.{PassedOn}
 use Rattle.history_lines.specs.Outcomes.{IsWritten}
 use Rattle.history_lines.specs.declared.writer.Written.{Written}
@@ -106,11 +106,11 @@ pub part_of_text : (held held1 : Option (List ℕ)) (front end all : List ℕ) �
 part_of_text held held1 front end all whole part = subst (HasWrittenPart held held1) whole (part_more held held1 front end part)
 
 -- the header, the lines of the entries and those of the accounts are the text
-pub text_parts : (h : History) (none header : List ℕ) → none ≡ [] → header ≡ none ++ text (header_lines h.limits h.shelf) → (header ++ lines_of h.entries) ++ text (account_lines h.accounts) ≡ history_text h
+pub text_parts : (h : History) (none header : List ℕ) → none ≡ [] → header ≡ none ++ text (header_lines (head_of h) h.shelf) → (header ++ lines_of h.entries) ++ text (account_lines h.accounts) ≡ history_text h
 text_parts h none header none_is header_is =
-    let first : List ℕ = text (header_lines h.limits h.shelf) in
+    let first : List ℕ = text (header_lines (head_of h) h.shelf) in
     let last : List ℕ = text (account_lines h.accounts) in
     ap (λ t. (t ++ lines_of h.entries) ++ last) (header_is ∙ ap (λ t. t ++ first) none_is)
     ∙ append_assoc first (lines_of h.entries) last
     ∙ ap (λ t. first ++ t) (sym (text-append (map entry_line h.entries) (account_lines h.accounts)))
-    ∙ sym (text-append (header_lines h.limits h.shelf) (map entry_line h.entries ++ account_lines h.accounts))
+    ∙ sym (text-append (header_lines (head_of h) h.shelf) (map entry_line h.entries ++ account_lines h.accounts))

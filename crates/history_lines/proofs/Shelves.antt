@@ -7,19 +7,19 @@ use Rattle.std.proofs.lemmas.Option.{get_or_from_slice_get, slice_get_within}
 use Rattle.std.proofs.lemmas.Bool.Decides.{nat_tests}
 use Rattle.std.proofs.lemmas.List.Elements.{All-head, All-tail}
 use Rattle.corten_base.specs.declared.calls.Entry.{Entry}
-use Rattle.text_words.specs.Layout.{HasNo, words_of, ended, text}
+use Rattle.text_words.specs.Layout.{words_of, ended, text}
 use Rattle.text_words.proofs.LineLists.{text-append}
 use Rattle.text_words.specs.Spelling.{number}
-use Rattle.text_words.proofs.SpelledBytes.{IsNoDigit, HasNo-number}
+use Rattle.text_words.proofs.SpelledBytes.{IsNoDigit}
 use Rattle.mm_script.specs.ScriptText.{file_line, file_lines, IsFile}
 use Rattle.mm_script.proofs.CallForms.{other_word}
 use Rattle.mm_script.proofs.FileLines.{file_words, words_of-file_line, file_line_injective}
 use Rattle.history_lines.specs.declared.counts.Counts.{Counts}
-use Rattle.history_lines.specs.Accounting.{counts_words, frames_line, AreCounts}
+use Rattle.history_lines.specs.Accounting.{levels_line, counts_words, frames_line, AreCounts}
 use Rattle.history_lines.specs.Files.{IsNoFile}
-use Rattle.history_lines.specs.HistoryText.{entry_line, entry_words, IsEntry}
+use Rattle.history_lines.specs.HistoryText.{entry_line, entry_words, IsEntry, IsEntryOf}
 use Rattle.history_lines.proofs.OneEntry.{words_of-entry_line}
-use Rattle.history_lines.proofs.CountLines.{words_of-counts, frames_names}
+use Rattle.history_lines.proofs.CountLines.{words_of-counts, words_of-levels, frames_names, no_digit_s, no_thread}
 
 same_first : (a b : List ℕ) (x y : List (List ℕ)) → a ∷ x ≡ b ∷ y → a ≡ b
 same_first a b x y same = cc
@@ -37,9 +37,41 @@ no_digit_i d small is = grind (arith, nat_tests)
 pub entry_line_no_file : (e : Entry) → IsEntry e → IsNoFile (entry_line e)
 entry_line_no_file e h bytes is_file is =
     let words : entry_words e ≡ file_words bytes = sym (words_of-entry_line e h) ∙ ap words_of is ∙ words_of-file_line bytes is_file in
-    let Q : ℕ → Type 0 = λ b. b ≢ 105 in
-    let none : All Q (102 ∷ 105 ∷ 108 ∷ 101 ∷ []) = subst (HasNo 105) (same_first (number e.thread) (codes "file") _ _ words) (HasNo-number 105 e.thread (omega (arith, h.thread.1)) no_digit_i) in
-    All-head Q 105 (108 ∷ 101 ∷ []) (All-tail Q 102 (105 ∷ 108 ∷ 101 ∷ []) none) refl
+    no_thread 105 e (codes "file") no_digit_i h refl (same_first (number e.thread) (codes "file") _ _ words)
+
+-- the line of five levels is none of these
+no_levels : (line first : List ℕ) (words : List (List ℕ)) → words_of line ≡ first ∷ words → first ≢ codes "levels" → line ≢ levels_line
+no_levels line first words are other is =
+    other (same_first first (codes "levels") words (codes "5" ∷ []) (sym are ∙ ap words_of is ∙ words_of-levels))
+
+-- lines of which the first is not that of five levels
+abbrev pub HasNoLevelsFirst : List (List ℕ) → Type 0
+HasNoLevelsFirst lines = (more : List (List ℕ)) → lines ≢ levels_line ∷ more
+
+pub file_no_levels : (f : List ℕ) → IsFile f → file_line f ≢ levels_line
+file_no_levels f h = no_levels (file_line f) (codes "file") _ (words_of-file_line f h) (λ same. other_word (codes "file") (codes "levels") [] [] refl (ap (λ w. w ∷ []) same))
+
+pub entry_no_levels : (e : Entry) → IsEntry e → entry_line e ≢ levels_line
+entry_no_levels e h = no_levels (entry_line e) (number e.thread) _ (words_of-entry_line e h) (no_thread 115 e (codes "levels") no_digit_s h refl)
+
+pub frames_no_levels : (c : Counts) → AreCounts c → frames_line c ≢ levels_line
+frames_no_levels c h =
+    no_levels (frames_line c) (codes "frames") _ (words_of-counts (codes "frames") (codes "free") (codes "mapped") c frames_names h)
+    (λ same. other_word (codes "frames") (codes "levels") [] [] refl (ap (λ w. w ∷ []) same))
+
+pub first_no_levels : (line : List ℕ) (lines : List (List ℕ)) → line ≢ levels_line → HasNoLevelsFirst (line ∷ lines)
+first_no_levels line lines other more same = other (same_first line levels_line lines more same)
+
+pub none_no_levels : HasNoLevelsFirst []
+none_no_levels more same = cc
+
+pub files_no_levels : (fs lines : List (List ℕ)) → All IsFile fs → HasNoLevelsFirst lines → HasNoLevelsFirst (file_lines fs ++ lines)
+files_no_levels [] lines hf none = none
+files_no_levels (f ∷ fs) lines hf none = first_no_levels (file_line f) (file_lines fs ++ lines) (file_no_levels f (All-head IsFile f fs hf))
+
+pub entries_no_levels : (v : ℕ) (es : List Entry) (lines : List (List ℕ)) → All (IsEntryOf v) es → HasNoLevelsFirst lines → HasNoLevelsFirst (map entry_line es ++ lines)
+entries_no_levels v [] lines he none = none
+entries_no_levels v (e ∷ es) lines he none = first_no_levels (entry_line e) (map entry_line es ++ lines) (entry_no_levels e (All-head (IsEntryOf v) e es he).entry)
 
 -- lines of which the first is no file's
 pub record FirstOther (lines : List (List ℕ)) : Type 0 where
@@ -49,9 +81,9 @@ pub record FirstOther (lines : List (List ℕ)) : Type 0 where
   pub none : IsNoFile first
 
 -- so are entries' and the line of frames behind them
-pub body_first : (es : List Entry) (last : List ℕ) (ys : List (List ℕ)) → All IsEntry es → IsNoFile last → FirstOther (map entry_line es ++ last ∷ ys)
-body_first [] last ys he none = record { first = last; others = ys; are = refl; none = none }
-body_first (e ∷ es) last ys he none = record { first = entry_line e; others = map entry_line es ++ last ∷ ys; are = refl; none = entry_line_no_file e (All-head IsEntry e es he) }
+pub body_first : (v : ℕ) (es : List Entry) (last : List ℕ) (ys : List (List ℕ)) → All (IsEntryOf v) es → IsNoFile last → FirstOther (map entry_line es ++ last ∷ ys)
+body_first v [] last ys he none = record { first = last; others = ys; are = refl; none = none }
+body_first v (e ∷ es) last ys he none = record { first = entry_line e; others = map entry_line es ++ last ∷ ys; are = refl; none = entry_line_no_file e (All-head (IsEntryOf v) e es he).entry }
 
 -- Files' lines, and lines behind them, are those of files and others: then the second files go on from the first.
 pub record FilesGoOn (fs fs' xs ys : List (List ℕ)) : Type 0 where

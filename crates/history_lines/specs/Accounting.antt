@@ -1,22 +1,48 @@
 -- The lines of a history text before its entries and after them.
---     header_lines      the version, the limits and the files
+--     version_line, levels_line      the line of the version, and that of five levels
+--     head_lines      the version and the limits
+--     header_lines      both, and the files
+--     HasLevels, IsHeader      the levels and the limits that have such lines in a version
 --     frames_line, swap_line, tables_line      numbers in use and not, and tables, at the end
 --     account_lines      all three
 --     AreCounts, AreAccounts      the numbers that have such lines
-use Rattle.std.specs.Prelude.{ℕ, List, [], ◌∷◌, codes}
+use Rattle.std.specs.Prelude.{◌≡◌, ℕ, ◌==◌, List, [], ◌∷◌, ◌++◌, codes, if◌then◌else◌}
 use Rattle.text_words.specs.Spelling.{number}
 use Rattle.text_words.specs.Layout.{joined}
 use Rattle.corten_base.specs.declared.numbers.Limits.{Limits}
 use Rattle.corten_base.specs.declared.numbers.Accounts.{Accounts}
+use Rattle.mm_script.specs.CallLine.{IsWithin}
 use Rattle.mm_script.specs.ScriptText as scripts
 use Rattle.history_lines.specs.declared.counts.Counts.{Counts}
+use Rattle.history_lines.specs.declared.header.Header.{Header}
 use Rattle.history_lines.specs.Replies.{IsCount}
 
-abbrev pub version_line : List ℕ
-version_line = codes "corten 1"
+-- a word and a number, as the limits have
+abbrev pub version_line : ℕ → List ℕ
+version_line version = joined (scripts.limit_words (codes "corten") version)
 
-abbrev pub header_lines : Limits → List (List ℕ) → List (List ℕ)
-header_lines limits files = version_line ∷ scripts.header_lines limits files
+abbrev pub levels_line : List ℕ
+levels_line = codes "levels 5"
+
+-- four levels have no line
+abbrev pub levels_lines : ℕ → List (List ℕ)
+levels_lines levels = if levels == 5 then levels_line ∷ [] else []
+
+abbrev pub head_lines : Header → List (List ℕ)
+head_lines head = version_line head.version ∷ (scripts.limit_lines head.limits ++ levels_lines head.limits.levels)
+
+abbrev pub header_lines : Header → List (List ℕ) → List (List ℕ)
+header_lines head files = head_lines head ++ scripts.file_lines files
+
+-- four levels, or in version 2 five
+pub data HasLevels (version levels : ℕ) : Type 0 where
+  four : levels ≡ 4 → HasLevels version levels
+  five : levels ≡ 5 → version ≡ 2 → HasLevels version levels
+
+pub record IsHeader (head : Header) : Type 0 where
+  pub version : IsWithin 1 2 head.version
+  pub limits : scripts.AreLimits head.limits
+  pub levels : HasLevels head.version head.limits.levels
 
 -- three numbers, each behind its word
 abbrev pub counts_words : List ℕ → List ℕ → List ℕ → Counts → List (List ℕ)

@@ -1,24 +1,30 @@
 -- History texts.
 --     answer_words, answer_line, entry_line      an answered call's words, and its line
 --     lines_of      the lines of entries
+--     head_of      the version and the limits of a history
 --     history_lines, history_text      the lines of a history, and its text
+--     first_entry      the number of the line of the first answered call
 --     IsAsked      the bounds of an answered call, whatever its reply
---     IsEntry, HasText      the bounds of an answered call, and of a history, that has a line or a text
+--     IsEntry      the bounds of an answered call that has a line
+--     since, IsEntryOf      the first version that has a call's line, and the answered calls that have a line in a version
+--     HasText      the bounds of a history that has a text
 --     IsHistoryText      bytes that are the text of a history
 --     AreHistoryLines      the grammar: lines that are those of some history
 --     IsFirstFault      the first line outside the grammar
-use Rattle.std.specs.Prelude.{◌≡◌, ℕ, List, ◌∷◌, ◌++◌, map, codes, All}
+use Rattle.std.specs.Prelude.{◌≡◌, ℕ, ◌+◌, ◌≤◌, List, ◌∷◌, ◌++◌, length, map, codes, All}
 use Rattle.text_words.specs.Spelling.{number}
 use Rattle.text_words.specs.Layout.{joined, text}
 use Rattle.text_words.specs.Grammar as grammar
 use Rattle.corten_base.specs.declared.calls.Call.{Call}
+use Rattle.corten_base.specs.declared.calls.Call.TheVariants as call
 use Rattle.corten_base.specs.declared.calls.Reply.{Reply}
 use Rattle.corten_base.specs.declared.calls.Entry.{Entry}
 use Rattle.mm_script.specs.CallLine.{call_words, IsCall, IsWithin}
-use Rattle.mm_script.specs.ScriptText.{AreLimits, AreFiles}
+use Rattle.mm_script.specs.ScriptText.{AreFiles}
+use Rattle.history_lines.specs.declared.header.Header.{Header}
 use Rattle.history_lines.specs.declared.history.History.{History}
 use Rattle.history_lines.specs.Replies.{reply_words, IsReply}
-use Rattle.history_lines.specs.Accounting.{header_lines, account_lines, AreAccounts}
+use Rattle.history_lines.specs.Accounting.{levels_lines, header_lines, account_lines, IsHeader, AreAccounts}
 
 -- the thread, the call, and the reply behind `=`
 abbrev pub answer_words : ℕ → Call → Reply → List (List ℕ)
@@ -37,11 +43,18 @@ entry_line e = joined (entry_words e)
 abbrev pub lines_of : List Entry → List ℕ
 lines_of entries = text (map entry_line entries)
 
+abbrev pub head_of : History → Header
+head_of h = record { version = h.version; limits = h.limits }
+
 abbrev pub history_lines : History → List (List ℕ)
-history_lines h = header_lines h.limits h.shelf ++ (map entry_line h.entries ++ account_lines h.accounts)
+history_lines h = header_lines (head_of h) h.shelf ++ (map entry_line h.entries ++ account_lines h.accounts)
 
 abbrev pub history_text : History → List ℕ
 history_text h = text (history_lines h)
+
+-- lines count from 1, and five levels have a line of their own
+abbrev pub first_entry : History → ℕ
+first_entry h = 5 + length (levels_lines h.limits.levels) + length h.shelf
 
 -- the thread and the call are within their bounds, whatever the reply
 pub record IsAsked (e : Entry) : Type 0 where
@@ -54,10 +67,19 @@ pub record IsEntry (e : Entry) : Type 0 where
   pub call : IsCall e.call
   pub reply : IsReply e.reply
 
+abbrev pub since : Call → ℕ
+since (call.DontNeed space at len) = 2
+since (call.Remap space at old_len new_len) = 2
+since _ = 1
+
+pub record IsEntryOf (version : ℕ) (e : Entry) : Type 0 where
+  pub entry : IsEntry e
+  pub known : since e.call ≤ version
+
 pub record HasText (h : History) : Type 0 where
-  pub limits : AreLimits h.limits
+  pub head : IsHeader (head_of h)
   pub files : AreFiles h.shelf
-  pub entries : All IsEntry h.entries
+  pub entries : All (IsEntryOf h.version) h.entries
   pub accounts : AreAccounts h.accounts
 
 pub record IsHistoryText (bytes : List ℕ) (h : History) : Type 0 where

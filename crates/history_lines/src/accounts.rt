@@ -2,7 +2,7 @@
 ghost use Rattle.std.specs.Prelude.{◌≡◌, ◌++◌, OnOk};
 ghost use Rattle.text_words.specs.Layout.{text, ended, joined};
 ghost use Rattle.mm_script.specs.ScriptText.{limit_words, limit_lines};
-ghost use Rattle.history_lines.specs.Accounting.{header_lines, account_lines};
+ghost use Rattle.history_lines.specs.Accounting.{levels_lines, header_lines, account_lines};
 ghost use Rattle.history_lines.specs.Accounting as definitions;
 
 use crate::counts::{Counts, push_counts};
@@ -30,12 +30,24 @@ fn push_limits(out: &mut Vec<u8>, limits: Limits) -> Result<(), AllocError>
     push_limit(out, b"swap", limits.swap)
 }
 
-/// Adds the lines before the entries. After want of memory some of them may stand there.
-pub fn push_header(out: &mut Vec<u8>, limits: Limits, shelf: &Shelf) -> Result<(), AllocError>
-    ensures { OnOk result (out.new.items ≡ out.old.items ++ text (header_lines limits shelf.now)) }
+/// Adds the line of five levels, and nothing for four.
+fn push_levels(out: &mut Vec<u8>, levels: u8) -> Result<(), AllocError>
+    ensures { OnOk result (out.new.items ≡ out.old.items ++ text (levels_lines levels)) }
 {
-    out.extend_from_slice(b"corten 1\n")?;
+    if levels == 5 {
+        out.extend_from_slice(b"levels 5\n")?;
+    }
+    Ok(())
+}
+
+/// Adds the lines of version 2 before the entries. After want of memory some of them may stand there.
+pub fn push_header(out: &mut Vec<u8>, limits: Limits, shelf: &Shelf) -> Result<(), AllocError>
+    ensures { OnOk result (out.new.items ≡
+        out.old.items ++ text (header_lines (record { version = 2; limits = limits }) shelf.now)) }
+{
+    push_limit(out, b"corten", 2)?;
     push_limits(out, limits)?;
+    push_levels(out, limits.levels)?;
     push_files(out, shelf)
 }
 

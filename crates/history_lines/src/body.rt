@@ -1,14 +1,15 @@
 //! The lines of the files and of the entries, and the first of the accounts, read.
-ghost use Rattle.std.specs.Prelude.{◌≡◌, [], ◌∷◌, ◌++◌, map, All, IfOk, IfErr};
-ghost use Rattle.corten_base.specs.declared.numbers.Limits.{Limits};
+ghost use Rattle.std.specs.Prelude.{[], ◌∷◌, ◌++◌, map, All, IfOk, IfErr};
 ghost use Rattle.text_words.specs.Passing.{Passes, FaultFrom};
-ghost use Rattle.mm_script.specs.ScriptText.{AreLimits, AreFiles, file_lines, IfBad};
-ghost use Rattle.history_lines.specs.Accounting.{header_lines, frames_line, AreCounts};
-ghost use Rattle.history_lines.specs.HistoryText.{entry_line, IsEntry, AreHistoryLines};
+ghost use Rattle.mm_script.specs.ScriptText.{AreFiles, file_lines, IfBad};
+ghost use Rattle.history_lines.specs.Accounting.{head_lines, frames_line, IsHeader, AreCounts};
+ghost use Rattle.history_lines.specs.HistoryText.{entry_line, IsEntryOf, AreHistoryLines};
+ghost use Rattle.history_lines.specs.Reading.{HasNoLevels};
 
 use crate::counts::{Counts, counts_of};
-use crate::entries::read_entry;
+use crate::entries::read_entry_of;
 use crate::files::take_file;
+use crate::header::Header;
 use corten_base::EntryList;
 use file_shelf::Shelf;
 use mm_script::ScriptFault;
@@ -24,11 +25,16 @@ pub(crate) struct Body {
 }
 
 /// Takes the lines of the files and of the entries, which end with the line of frames.
-pub(crate) fn read_body(alloc: Global, lines: &mut Lines<'_>) -> Result<Body, ScriptFault>
-    ensures ok { IfOk result (λ body. AreFiles body.shelf × All IsEntry body.entries × AreCounts body.frames
+pub(crate) fn read_body(
+    alloc: Global,
+    head: Header,
+    lines: &mut Lines<'_>,
+) -> Result<Body, ScriptFault>
+    requires head { IsHeader head }
+    requires next { HasNoLevels head.version head.limits.levels lines.old.bytes }
+    ensures ok { IfOk result (λ body. AreFiles body.shelf × All (IsEntryOf head.version) body.entries × AreCounts body.frames
         × Passes lines.old lines.new (file_lines body.shelf ++ (map entry_line body.entries ++ frames_line body.frames ∷ []))) }
-    ensures bad { IfErr result (λ fault. IfBad fault (λ n. (limits : Limits) → AreLimits limits →
-        FaultFrom AreHistoryLines lines.old (header_lines limits []) n)) }
+    ensures bad { IfErr result (λ fault. IfBad fault (FaultFrom AreHistoryLines lines.old (head_lines head))) }
 {
     let mut shelf = Shelf::new(alloc);
     let mut entries = Vec::new(alloc);
@@ -36,7 +42,7 @@ pub(crate) fn read_body(alloc: Global, lines: &mut Lines<'_>) -> Result<Body, Sc
         if take_file(alloc, line, entries.as_slice(), &mut shelf)? {
             continue;
         }
-        let Some(entry) = read_entry(alloc, line)? else {
+        let Some(entry) = read_entry_of(alloc, head.version, line)? else {
             let Some(frames) = counts_of(line, b"frames", b"free", b"mapped") else {
                 return Err(ScriptFault::Bad(lines.taken()));
             };

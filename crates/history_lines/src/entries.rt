@@ -3,7 +3,8 @@ ghost use Rattle.std.specs.Prelude.{◌≡◌, ◌≢◌, ◌++◌, ℕ, List, I
 ghost use Rattle.corten_base.specs.declared.calls.Entry.{Entry};
 ghost use Rattle.text_words.specs.Layout.{ended};
 ghost use Rattle.mm_script.specs.CallLine.{IsCall};
-ghost use Rattle.history_lines.specs.HistoryText.{answer_line, entry_words, entry_line, IsEntry};
+ghost use Rattle.history_lines.specs.HistoryText.{answer_line, entry_words, entry_line, IsEntry, IsEntryOf};
+ghost use Rattle.history_lines.specs.HistoryText as definitions;
 
 use crate::replies::{next_reply, push_reply};
 use corten_base::{Call, Entry, Reply, TextBytes};
@@ -81,4 +82,33 @@ pub fn read_entry(alloc: Global, line: &[u8]) -> Result<Option<Entry>, AllocErro
     let mut words = Words::of(line);
     let entry = next_entry(alloc, &mut words)?;
     if words.is_done() { Ok(entry) } else { Ok(None) }
+}
+
+/// The first version that has a call's line.
+fn since(call: &Call) -> u8
+    ensures { result ≡ definitions.since call.now }
+{
+    match call {
+        Call::DontNeed { .. } | Call::Remap { .. } => 2,
+        _ => 1,
+    }
+}
+
+/// The answered call whose line this is, where the version has it.
+pub(crate) fn read_entry_of(
+    alloc: Global,
+    version: u8,
+    line: &[u8],
+) -> Result<Option<Entry>, AllocError>
+    ensures found { IfOk result (λ read. IfSome read (λ entry. IsEntryOf version entry × (line.now ≡ entry_line entry))) }
+    ensures none { IfOk result (λ read. IfNone read ((entry : Entry) → IsEntryOf version entry → line.now ≢ entry_line entry)) }
+{
+    let Some(entry) = read_entry(alloc, line)? else {
+        return Ok(None);
+    };
+    if since(&entry.call) <= version {
+        Ok(Some(entry))
+    } else {
+        Ok(None)
+    }
 }

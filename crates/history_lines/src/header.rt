@@ -1,48 +1,47 @@
-//! The lines before the files, read.
-ghost use Rattle.std.specs.Prelude.{◌≡◌, ◌≢◌, ℕ, [], ◌∷◌, IfOk, IfErr, OnOk};
-ghost use Rattle.text_words.specs.Layout.{joined, words_of};
+//! The lines of the version, of the limits and of the levels, read.
+ghost use Rattle.std.specs.Prelude.{◌≡◌, ◌≢◌, ℕ, [], ◌∷◌, IfOk, IfErr};
+ghost use Rattle.text_words.specs.Layout.{words_of, joined};
 ghost use Rattle.text_words.specs.Passing.{Passes, NoLine, FaultFrom};
 ghost use Rattle.mm_script.specs.CallLine.{IsWithin};
-ghost use Rattle.mm_script.specs.ScriptText.{AreLimits, limit_words, IfBad};
-ghost use Rattle.history_lines.specs.Accounting.{version_line, header_lines};
+ghost use Rattle.mm_script.specs.ScriptText.{limit_words, IfBad};
+ghost use Rattle.history_lines.specs.Accounting.{levels_lines, head_lines, HasLevels, IsHeader};
 ghost use Rattle.history_lines.specs.HistoryText.{AreHistoryLines};
+ghost use Rattle.history_lines.specs.Reading.{HasNoLevels};
 
 use corten_base::Limits;
 use mm_script::{ScriptFault, limit_of};
 use text_words::Lines;
 
-/// The first line of a history text.
-const VERSION: &[u8] = b"corten 1";
+/// The version of a text, and the limits of its machine.
+#[derive(Clone, Copy, Debug, PartialEq, Eq)]
+pub(crate) struct Header {
+    pub(crate) version: u8,
+    pub(crate) limits: Limits,
+}
 
-/// Takes the lines before the files.
-pub(crate) fn read_header(lines: &mut Lines<'_>) -> Result<Limits, ScriptFault>
-    ensures ok { IfOk result (λ limits. AreLimits limits × Passes lines.old lines.new (header_lines limits [])) }
+/// Takes the lines of the version, of the limits and of the levels.
+pub(crate) fn read_header(lines: &mut Lines<'_>) -> Result<Header, ScriptFault>
+    ensures ok { IfOk result (λ head. IsHeader head × Passes lines.old lines.new (head_lines head)
+        × HasNoLevels head.version head.limits.levels lines.new.bytes) }
     ensures bad { IfErr result (λ fault. IfBad fault (FaultFrom AreHistoryLines lines.old [])) }
 {
-    next_version(lines)?;
-    Ok(Limits {
-        frames: next_limit(lines, b"frames", 1, 4096)?,
-        tables: next_limit(lines, b"tables", 1, 1023)?,
-        swap: next_limit(lines, b"swap", 0, 4096)?,
+    let version = next_limit(lines, b"corten", 1, 2)? as u8;
+    let frames = next_limit(lines, b"frames", 1, 4096)?;
+    let tables = next_limit(lines, b"tables", 1, 1023)?;
+    let swap = next_limit(lines, b"swap", 0, 4096)?;
+    let levels = take_levels(lines, version);
+    Ok(Header {
+        version,
+        limits: Limits {
+            levels,
+            frames,
+            tables,
+            swap,
+        },
     })
 }
 
-/// Takes the line of the version.
-fn next_version(lines: &mut Lines<'_>) -> Result<(), ScriptFault>
-    ensures ok { OnOk result (Passes lines.old lines.new (version_line ∷ [])) }
-    ensures bad { IfErr result (λ fault. IfBad fault (λ n. NoLine lines.old n (λ line. line ≢ version_line))) }
-{
-    let Some(line) = lines.next_line() else {
-        return Err(ScriptFault::Bad(lines.taken() + 1));
-    };
-    if line == VERSION {
-        Ok(())
-    } else {
-        Err(ScriptFault::Bad(lines.taken()))
-    }
-}
-
-/// Takes the line of a limit, a number from `low` to `high` behind its name.
+/// Takes a line of one word and a number, which is from `low` to `high`.
 fn next_limit(lines: &mut Lines<'_>, name: &[u8], low: u32, high: u32) -> Result<u32, ScriptFault>
     ensures ok { IfOk result (λ n. IsWithin low high n × Passes lines.old lines.new (joined (limit_words name.now n) ∷ [])) }
     ensures bad { IfErr result (λ fault. IfBad fault (λ bad. NoLine lines.old bad
@@ -55,4 +54,16 @@ fn next_limit(lines: &mut Lines<'_>, name: &[u8], low: u32, high: u32) -> Result
         Some(limit) => Ok(limit),
         None => Err(ScriptFault::Bad(lines.taken())),
     }
+}
+
+/// Takes the line of five levels, where it stands next and the version has it. Without it there are four levels.
+fn take_levels(lines: &mut Lines<'_>, version: u8) -> u8
+    ensures levels { HasLevels version result }
+    ensures passed { Passes lines.old lines.new (levels_lines result) }
+    ensures none { HasNoLevels version result lines.new.bytes }
+{
+    if version != 2 {
+        return 4;
+    }
+    if lines.take_line(b"levels 5") { 5 } else { 4 }
 }

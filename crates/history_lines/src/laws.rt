@@ -5,7 +5,7 @@ ghost use Rattle.corten_base.specs.declared.calls.Entry.{Entry};
 ghost use Rattle.history_lines.specs.declared.history.History.{History};
 ghost use Rattle.history_lines.specs.declared.verdict.Verdict.{Verdict};
 ghost use Rattle.mm_script.specs.ScriptText.{AreLimits, AreFiles};
-ghost use Rattle.history_lines.specs.HistoryText.{entry_words, entry_line, history_lines, history_text, IsAsked, IsEntry, HasText, IsHistoryText, IsFirstFault};
+ghost use Rattle.history_lines.specs.HistoryText.{entry_words, entry_line, history_lines, history_text, first_entry, IsEntry, HasText, IsHistoryText, IsFirstFault};
 ghost use Rattle.page_map.specs.State.{start, accounts};
 ghost use Rattle.page_map.specs.History.{IsHistory, after};
 ghost use Rattle.history_lines.specs.Checking.{IsVerdict, IsFirstWrong};
@@ -49,7 +49,7 @@ pub fn a_history_has_one_verdict()
 /// account line that is not that of the state which they leave.
 pub fn a_wrong_reply_or_account_is_the_first_wrong_line()
     ensures reply { (h : History) (i : ℕ) → HasText h → IsWrongAt (start h.limits h.shelf) h.entries i
-        → IsFirstWrong (history_lines h) (5 + length h.shelf + i) }
+        → IsFirstWrong (history_lines h) (first_entry h + i) }
     ensures account { (h : History) (i : ℕ) → HasText h → IsHistory h.limits h.shelf h.entries
-        → WrongAccount (after (start h.limits h.shelf) h.entries) h.accounts i → IsFirstWrong (history_lines h) (5 + length h.shelf + length h.entries + i) }
+        → WrongAccount (after (start h.limits h.shelf) h.entries) h.accounts i → IsFirstWrong (history_lines h) (first_entry h + length h.entries + i) }
 {}

@@ -1,7 +1,8 @@
 //! History texts: the answered calls of a run, and its accounts, as lines.
 //!
-//! A history text is lines, each ended by a newline, and no line is skipped: `corten 1`, the limits, a line for each file, a line for
-//! each answered call, and three lines of accounts.
+//! A history text is lines, each ended by a newline, and no line is skipped: `corten 1` or `corten 2`, the limits, a line for each file, a
+//! line for each answered call, and three lines of accounts. Version 2 also has the calls `dontneed` and `remap`, and behind the limits the
+//! line `levels 5` where the page tables have five levels. Both versions are read, and version 2 is written.
 #![tactic(auto)]
 
 mod accounts;

@@ -1,13 +1,13 @@
 //! Histories, read from their texts.
 ghost use Rattle.std.specs.Prelude.{◌≡◌, ℕ, List, [], ◌∷◌, ◌++◌, map, All, IfOk, IfErr};
-ghost use Rattle.corten_base.specs.declared.numbers.Limits.{Limits};
 ghost use Rattle.corten_base.specs.declared.calls.Entry.{Entry};
 ghost use Rattle.text_words.specs.Passing.{Passes, FaultFrom};
-ghost use Rattle.mm_script.specs.ScriptText.{AreLimits, AreFiles, IfBad};
+ghost use Rattle.mm_script.specs.ScriptText.{AreFiles, IfBad};
 ghost use Rattle.history_lines.specs.declared.counts.Counts.{Counts};
+ghost use Rattle.history_lines.specs.declared.header.Header.{Header};
 ghost use Rattle.history_lines.specs.declared.history.History.{History};
-ghost use Rattle.history_lines.specs.Accounting.{header_lines, frames_line, swap_line, tables_line, AreCounts, frames_counts, swap_counts, tables_counts};
-ghost use Rattle.history_lines.specs.HistoryText.{entry_line, IsEntry, AreHistoryLines, IsHistoryText, IsFirstFault};
+ghost use Rattle.history_lines.specs.Accounting.{header_lines, frames_line, swap_line, tables_line, IsHeader, AreCounts, frames_counts, swap_counts, tables_counts};
+ghost use Rattle.history_lines.specs.HistoryText.{entry_line, IsEntryOf, AreHistoryLines, IsHistoryText, IsFirstFault};
 
 use crate::body::read_body;
 use crate::counts::{Counts, next_counts};
@@ -29,9 +29,9 @@ struct Ends {
 fn read_ends(lines: &mut Lines<'_>) -> Result<Ends, ScriptFault>
     ensures ok { IfOk result (λ ends. AreCounts ends.swap × AreCounts ends.tables
         × Passes lines.old lines.new (swap_line ends.swap ∷ tables_line ends.tables ∷ []) × (lines.new.bytes ≡ [])) }
-    ensures bad { IfErr result (λ fault. IfBad fault (λ n. (limits : Limits) (files : List (List ℕ)) (entries : List Entry) (frames : Counts) →
-        AreLimits limits → AreFiles files → All IsEntry entries → AreCounts frames →
-        FaultFrom AreHistoryLines lines.old (header_lines limits files ++ (map entry_line entries ++ frames_line frames ∷ [])) n)) }
+    ensures bad { IfErr result (λ fault. IfBad fault (λ n. (head : Header) (files : List (List ℕ)) (entries : List Entry) (frames : Counts) →
+        IsHeader head → AreFiles files → All (IsEntryOf head.version) entries → AreCounts frames →
+        FaultFrom AreHistoryLines lines.old (header_lines head files ++ (map entry_line entries ++ frames_line frames ∷ [])) n)) }
 {
     let swap = next_counts(lines, b"swap", b"free", b"used")?;
     let tables = next_counts(lines, b"tables", b"linked", b"limbo")?;
@@ -71,11 +71,12 @@ pub fn read_history(alloc: Global, bytes: &[u8]) -> Result<History, ScriptFault>
     ensures none { IfErr result (λ fault. IfBad fault (λ n. (history : History) → ¬ (IsHistoryText bytes.now history))) }
 {
     let mut lines = Lines::of(bytes);
-    let limits = read_header(&mut lines)?;
-    let body = read_body(alloc, &mut lines)?;
+    let head = read_header(&mut lines)?;
+    let body = read_body(alloc, head, &mut lines)?;
     let ends = read_ends(&mut lines)?;
     Ok(History {
-        limits,
+        version: head.version,
+        limits: head.limits,
         shelf: body.shelf,
         entries: body.entries,
         accounts: accounts_of(body.frames, ends.swap, ends.tables),

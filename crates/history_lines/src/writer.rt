@@ -113,7 +113,7 @@ pub fn write_accounts<K: Sink>(waiting: &mut Vec<u8>, accounts: &Accounts, sink:
     }
 }
 
-/// Writes the text of a history.
+/// Writes the text of a history, in version 2.
 pub fn write_history<K: Sink>(
     alloc: Global,
     limits: Limits,
@@ -124,7 +124,7 @@ pub fn write_history<K: Sink>(
 ) -> Written
     requires { All IsEntry entries.now }
     ensures written { IsWritten (K.held sink.old) (K.held sink.new) (K.faults sink.old) (K.faults sink.new)
-        (history_text (record { limits = limits; shelf = shelf.now; entries = entries.now; accounts = accounts.now })) result }
+        (history_text (record { version = 2; limits = limits; shelf = shelf.now; entries = entries.now; accounts = accounts.now })) result }
     ensures count { K.faults sink.old ≤ K.faults sink.new }
 {
     let mut waiting = Vec::new(alloc);

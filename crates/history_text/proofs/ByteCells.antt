@@ -1,6 +1,6 @@
 -- Each byte of a state is below 256 where those of its files are, and a call that stores such bytes keeps that.
 use Rattle.std.proofs.Common.{◌≡◌, ℕ, ◌+◌, ◌-◌, ◌*◌, ◌/◌, ◌<◌, Bool, true, false, cond, List, [], ◌∷◌, ◌++◌, length, take, drop, refl, sym, ap, subst, ◌∙◌, arith}
-use Rattle.std.specs.Prelude.{Option, Some, None, nat_eq, slice_get}
+use Rattle.std.specs.Prelude.{Option, Some, None, nat_eq, nat_lt, slice_get}
 use Rattle.std.specs.Option.{unwrap_or, option_map}
 use Rattle.std.specs.List.{All}
 use Rattle.std.specs.FinMap as fin
@@ -19,14 +19,17 @@ use Rattle.corten_base.specs.declared.calls.TxnOp.TheVariants as op
 use Rattle.table_place.specs.Place.{pages_of}
 use Rattle.page_map.specs.declared.cell.Cell.{Cell}
 use Rattle.page_map.specs.declared.cell.Cell.TheVariants.{Anon, File, Mapped, Swapped}
-use Rattle.page_map.specs.Cell.{zeros, file_bytes, file_page, contents, with_perm, written}
+use Rattle.page_map.specs.Cell.{AddressSpace, zeros, file_bytes, file_page, contents, with_perm, written, backed, backing_of, perm_of, goes_on}
+use Rattle.page_map.specs.Change.{change}
+use Rattle.page_map.specs.DontNeed.{given_back}
+use Rattle.page_map.specs.Remap.{Resize, resize_of, put_at, left_first, left_count, filled_first, filled_count, last_cell, cell_for, remapped}
 use Rattle.page_map.specs.Takes.{Grant, granted}
 use Rattle.page_map.specs.Tables.{Tables, changed_tables}
 use Rattle.page_map.specs.Access.{Access, first_page, page_count, touched, after_access}
-use Rattle.page_map.specs.Mapping.{backed, after_op, after_ops}
+use Rattle.page_map.specs.Mapping.{after_op, after_ops}
 use Rattle.page_map.specs.Swap.{out_to, in_to, moved, moved_to}
 use Rattle.page_map.specs.Spaces.{least_absent}
-use Rattle.page_map.specs.State.{State, AddressSpace, cell_at, space_at}
+use Rattle.page_map.specs.State.{State, levels, cell_at, space_at}
 use Rattle.page_map.specs.Effect.{state_after, ops_of, frame_grants, slot_grants, wanted_tables, is_given_up}
 use Rattle.page_map.specs.Step.{step}
 use Rattle.page_map.proofs.Steps.{not_none, by_step}
@@ -72,22 +75,22 @@ module _ (files : List (List ℕ)) (files_are : All AreBytes files) where
   with_perm_bytes : (perm : Perm) (d : Cell) → AreBytes (contents files d) → AreBytes (contents files (with_perm perm d))
   with_perm_bytes perm (Anon old) h = h
   with_perm_bytes perm (File old file index) h = h
-  with_perm_bytes perm (Mapped old frame bytes) h = h
-  with_perm_bytes perm (Swapped old slot bytes) h = h
+  with_perm_bytes perm (Mapped old origin frame bytes) h = h
+  with_perm_bytes perm (Swapped old origin slot bytes) h = h
 
   out_bytes : (o : Option ℕ) (d : Cell) → AreBytes (contents files d) → AreBytes (contents files (moved out_to o d))
   out_bytes None d h = h
   out_bytes (Some n) (Anon perm) h = h
   out_bytes (Some n) (File perm file index) h = h
-  out_bytes (Some n) (Mapped perm frame bytes) h = h
-  out_bytes (Some n) (Swapped perm slot bytes) h = h
+  out_bytes (Some n) (Mapped perm origin frame bytes) h = h
+  out_bytes (Some n) (Swapped perm origin slot bytes) h = h
 
   in_bytes : (o : Option ℕ) (d : Cell) → AreBytes (contents files d) → AreBytes (contents files (moved in_to o d))
   in_bytes None d h = h
   in_bytes (Some n) (Anon perm) h = h
   in_bytes (Some n) (File perm file index) h = h
-  in_bytes (Some n) (Mapped perm frame bytes) h = h
-  in_bytes (Some n) (Swapped perm slot bytes) h = h
+  in_bytes (Some n) (Mapped perm origin frame bytes) h = h
+  in_bytes (Some n) (Swapped perm origin slot bytes) h = h
 
   abbrev HasBytes : Cell → Type 0
   HasBytes c = AreBytes (contents files c)
@@ -128,6 +131,28 @@ module _ (files : List (List ℕ)) (files_are : All AreBytes files) where
   ins_bytes grants first count cells old p c e =
       in_changed HasBytes cells first count (λ page. option_map (moved in_to (granted grants page))) p c e
       (λ w h. mapped_from HasBytes (moved in_to (granted grants p)) (fin.get cells p) c h (λ d f. in_bytes (granted grants p) d (old p d f))) (λ w h. old p c h)
+
+  given_bytes : (first count : ℕ) (cells : AddressSpace) → HaveBytes cells → HaveBytes (given_back first count cells)
+  unfolding given_back
+  given_bytes first count cells old p c e =
+      in_changed HasBytes cells first count (λ page. option_map (λ cell. goes_on cell 0)) p c e
+      (λ w h. mapped_from HasBytes (λ cell. goes_on cell 0) (fin.get cells p) c h (λ d f. backed_bytes (backing_of d) (perm_of d) 0)) (λ w h. old p c h)
+
+  -- a page of a range of another length, and one behind its old end
+  for_bytes : (r : Resize) (cells : AddressSpace) (i : ℕ) (c : Cell) → HaveBytes cells → cell_for cells r i ≡ Some c → HasBytes c
+  for_bytes r cells i c old e = go (nat_lt i r.old) e
+    where
+      go : (b : Bool) → cond b (fin.get cells (r.first + i)) (option_map (λ last. goes_on last (i + 1 - r.old)) (last_cell cells r)) ≡ Some c → HasBytes c
+      go true f = old (r.first + i) c f
+      go false f = mapped_from HasBytes (λ last. goes_on last (i + 1 - r.old)) (last_cell cells r) c f (λ d g. backed_bytes (backing_of d) (perm_of d) (i + 1 - r.old))
+
+  remapped_bytes : (levels thread : ℕ) (r : Resize) (cells : AddressSpace) → HaveBytes cells → HaveBytes (remapped levels thread r cells)
+  unfolding remapped
+  remapped_bytes levels thread r cells old p c e =
+      in_changed HasBytes (change cells (left_first levels cells r) (left_count levels cells r) (λ page _. None)) (filled_first levels thread cells r) (filled_count levels cells r)
+      (λ page _. cell_for cells r (page - put_at levels thread cells r)) p c e
+      (λ w h. for_bytes r cells (p - put_at levels thread cells r) c old h)
+      (λ w h. in_changed HasBytes cells (left_first levels cells r) (left_count levels cells r) (λ page _. None) p c h (λ v g. absurd (not_none (sym g))) (λ v g. old p c g))
 
 -- the files and all cells
 pub record AreAllBytes (st : State) : Type 0 where
@@ -173,6 +198,11 @@ module _ (st : State) (thread : ℕ) (h : AreAllBytes st) where
   after_bytes (call.SwapIn space at len) new =
       let c = call.SwapIn space at len in
       changed_bytes space (moved_to in_to (frame_grants st c) (at / 4096) (pages_of len) (space_at st space)) (left_by c) (ins_bytes st.files h.files (frame_grants st c) (at / 4096) (pages_of len) (space_at st space) (h.cells space))
+  after_bytes (call.DontNeed space at len) new =
+      changed_bytes space (given_back (at / 4096) (pages_of len) (space_at st space)) (left_by (call.DontNeed space at len)) (given_bytes st.files h.files (at / 4096) (pages_of len) (space_at st space) (h.cells space))
+  after_bytes (call.Remap space at old_len new_len) new =
+      let r : Resize = resize_of at old_len new_len in
+      changed_bytes space (remapped (levels st) thread r (space_at st space)) (left_by (call.Remap space at old_len new_len)) (remapped_bytes st.files h.files (levels st) thread r (space_at st space) (h.cells space))
   after_bytes call.Spawn new = changed_bytes (unwrap_or (least_absent st) 0) fin.empty (left_by call.Spawn) (λ p c e. absurd (not_none (sym e ∙ get-empty nat_cmp p)))
   after_bytes (call.Fork space) new = changed_bytes (unwrap_or (least_absent st) 0) (space_at st space) (left_by (call.Fork space)) (h.cells space)
   after_bytes (call.Exit space) new = record { files = h.files; cells = λ s p c e. h.cells s p c (left_cell s p c e) }

@@ -14,18 +14,18 @@ use Rattle.corten_base.specs.declared.calls.Entry.{Entry}
 use Rattle.corten_base.specs.declared.numbers.Limits.{Limits}
 use Rattle.table_place.specs.Place.{root}
 use Rattle.page_map.specs.declared.cell.Cell.{Cell}
-use Rattle.page_map.specs.State.{State, AddressSpace, IsConsistent, levels_of, cell_at, start}
+use Rattle.page_map.specs.State.{State, AddressSpace, IsConsistent, IsWithinLimits, levels_of, cell_at, start}
 use Rattle.page_map.specs.History.{IsLegal, IsHistory, entry_step, limbo_of}
 use Rattle.page_map.proofs.Steps.{not_none}
-use Rattle.page_map.proofs.Start.{start_is_consistent}
 use Rattle.page_map.proofs.Cells.{each_cell}
 use Rattle.page_map.proofs.StepKeeps.{step_keeps}
 use Rattle.mm_script.specs.CallLine.{IsCall}
 use Rattle.mm_script.specs.ScriptText.{IsFile, AreLimits, AreFiles}
 use Rattle.history_lines.specs.Replies.{IsReply}
-use Rattle.history_lines.specs.HistoryText.{IsEntry, IsAsked}
+use Rattle.history_lines.specs.HistoryText.{IsEntry, IsEntryOf, IsAsked}
+use Rattle.history_lines.specs.Accounting.{IsHeader}
 use Rattle.history_text.proofs.ByteCells.{AreBytes, AreAllBytes, stored_by, step_bytes}
-use Rattle.history_lines.proofs.Closings.{step_limits, start_limits}
+use Rattle.history_lines.proofs.Closings.{few_levels, step_limits, start_limits, final_is_consistent}
 use Rattle.history_text.proofs.Spelled.{spelled_step}
 
 -- the bytes that a call with a line stores
@@ -67,6 +67,22 @@ start_bytes limits files h = record {
   cells = λ s p c e. absurd (start_cells limits files s p c e);
 }
 
-pub history_entries : (limits : Limits) (files : List (List ℕ)) (es : List Entry) → AreLimits limits → AreFiles files → All IsAsked es → IsHistory limits files es → All IsEntry es
-history_entries limits files es hl hfs asked legal =
-    asked_entries (start limits files) es (start_is_consistent limits files hl.tables.0) (subst AreLimits (sym (start_limits limits files)) hl) (start_bytes limits files hfs) asked legal
+-- a machine may have the limits of a history
+pub within_limits : (version : ℕ) (limits : Limits) → IsHeader (record { version = version; limits = limits }) → IsWithinLimits limits
+within_limits version limits h =
+    let levels = few_levels version limits.levels h.levels in
+    let within = h.limits in
+    record {
+      some_levels = levels.0;
+      few_levels = levels.1;
+      some_frame = within.frames.0;
+      frames = within.frames.1;
+      some_table = within.tables.0;
+      tables = within.tables.1;
+      swap = within.swap.1;
+    }
+
+pub history_entries : (version : ℕ) (limits : Limits) (files : List (List ℕ)) (es : List Entry) → IsHeader (record { version = version; limits = limits }) → AreFiles files → All IsAsked es → IsHistory limits files es → All IsEntry es
+history_entries version limits files es hh hfs asked legal =
+    asked_entries (start limits files) es (final_is_consistent (record { version = version; limits = limits }) files [] hh (All-nil (IsEntryOf version))) (subst AreLimits (sym (start_limits limits files)) hh.limits)
+    (start_bytes limits files hfs) asked legal

@@ -3,7 +3,8 @@ ghost use Rattle.std.specs.Prelude.{◌≡◌, ◌≤◌, ◌+◌, ◌↔◌, Al
 ghost use Rattle.page_map.specs.State.{linked, start};
 ghost use Rattle.page_map.specs.History.{IsLegal, after, entry_step};
 ghost use Rattle.page_map.specs.History as definitions;
-ghost use Rattle.history_lines.specs.HistoryText.{IsEntry, HasText};
+ghost use Rattle.history_lines.specs.HistoryText.{IsEntry, IsEntryOf, HasText};
+ghost use Rattle.history_lines.specs.HistoryText as text;
 ghost use Rattle.history_lines.specs.Checking.{IsRight, AreRight, IsVerdict};
 ghost use Rattle.history_lines.specs.Wrong.{IsWrongAt, AreTablesRight, WrongAccount};
 
@@ -12,7 +13,7 @@ use history_lines::{Counts, History, Verdict, copy_of, frames_counts, swap_count
 use mm_model::{Plain, StepFault};
 use std::alloc::{AllocError, Global};
 
-/// The line of the first answered call where there is no file. Lines count from 1.
+/// The line of the first answered call where there are four levels and no file. Lines count from 1.
 const FIRST_ENTRY: u64 = 5;
 
 /// The page tables in limbo that a reply shows, and none where it shows none.
@@ -29,7 +30,8 @@ fn limbo_of(reply: &Reply) -> u32
 fn is_right(alloc: Global, plain: &mut Plain, entry: &Entry) -> Result<bool, AllocError>
     requires { IsEntry entry.now }
     ensures right { IfOk result (λ right. IsTrue right ↔ IsRight plain.old entry.now) }
-    ensures after { IfOk result (λ right. IsTrue right → plain.new ≡ (entry_step plain.old entry.now).1) }
+    ensures after { IfOk result (λ right.
+        IsTrue right → plain.new ≡ (entry_step plain.old entry.now).1) }
 {
     match plain.step(alloc, entry.thread, &entry.call, limbo_of(&entry.reply)) {
         Ok(reply) => Ok(reply == entry.reply),
@@ -45,7 +47,8 @@ fn first_wrong_entry(
     entries: &[Entry],
 ) -> Result<Option<usize>, AllocError>
     requires { All IsEntry entries.now }
-    ensures right { IfOk result (λ place. IfNone place (IsLegal plain.old entries.now × (plain.new ≡ after plain.old entries.now))) }
+    ensures right { IfOk result (λ place. IfNone place
+        (IsLegal plain.old entries.now × (plain.new ≡ after plain.old entries.now))) }
     ensures wrong { IfOk result (λ place. IfSome place (IsWrongAt plain.old entries.now)) }
 {
     for (place, entry) in entries.iter().enumerate() {
@@ -58,7 +61,8 @@ fn first_wrong_entry(
 
 /// Whether the line of page tables is right: as many may be in limbo as there is room for.
 fn are_tables_right(accounts: &Accounts, own: &Accounts) -> bool
-    ensures { IsTrue result ↔ ((accounts.now.tables ≡ own.now.tables) × (accounts.now.linked ≡ own.now.linked)
+    ensures { IsTrue result ↔ ((accounts.now.tables ≡ own.now.tables)
+        × (accounts.now.linked ≡ own.now.linked)
         × (own.now.linked + accounts.now.limbo ≤ own.now.tables)) }
 {
     accounts.tables == own.tables
@@ -100,13 +104,22 @@ fn start_of(alloc: Global, history: &History) -> Result<Plain, AllocError>
     Plain::new(alloc, history.limits, shelf)
 }
 
+/// The line of the first answered call: five levels have a line, and each file.
+fn first_entry(history: &History) -> u64
+    ensures value { result ≡ text.first_entry history.now }
+    ensures small { result ≤ 261 }
+{
+    let levels = if history.limits.levels == 5 { 1 } else { 0 };
+    FIRST_ENTRY + levels + u64::from(history.shelf.count())
+}
+
 /// What is found of a history, by the machine before its calls.
 fn judge(alloc: Global, plain: &mut Plain, history: &History) -> Result<Verdict, AllocError>
     requires text { HasText history.now }
     requires start { plain.old ≡ start history.now.limits history.now.shelf }
     ensures { IfOk result (IsVerdict history.now) }
 {
-    let first = FIRST_ENTRY + u64::from(history.shelf.count());
+    let first = first_entry(history);
     let entries = history.entries.list();
     if let Some(place) = first_wrong_entry(alloc, plain, entries)? {
         return Ok(Verdict::Illegal(first + place as u64));

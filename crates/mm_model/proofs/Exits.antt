@@ -78,27 +78,27 @@ module _ (number_of : Cell → Option ℕ) (st : State) (limit : ℕ) (counts : 
 -- ---- fronts
 
 pub exit_full : (st next : State) (space : ℕ) (fronts fronts' : List ℕ) → next.spaces ≡ fin.remove st.spaces space → AreFull st fronts →
-    ((t : ℕ) → t < 8 → full_pages fronts' space t ≡ full_before (arena_first t) (full_pages fronts space t) 0 (2 ^ 35)) →
+    ((t : ℕ) → t < 8 → full_pages fronts' space t ≡ full_before (arena_first t) (full_pages fronts space t) 0 (2 ^ 44)) →
     ((s t : ℕ) → (s ≡ space → ⊥) → t < 8 → full_pages fronts' s t ≡ full_pages fronts s t) → AreFull next fronts'
 exit_full st next space fronts fronts' is full known others s t small few = go (nat_eq s space) refl
   where
     next_at : nat_eq s space ≡ false → space_at next s ≡ space_at st s
     next_at e = ap (λ (o : Option AddressSpace). unwrap_or o fin.empty) (ap (λ m. get m s) is ∙ get-remove nat_cmp_total st.spaces space s ∙ ap (λ b. cond b None (get st.spaces s)) (unsigned_tied s space ∙ e))
 
-    before : (b : Bool) → nat_le (0 + 2 ^ 35) (arena_first t) ≡ b → (known : ℕ) → cond b known (min known (0 - arena_first t)) ≡ 0
-    before true e known = absurd (omega (arith, leb-true (0 + 2 ^ 35) (arena_first t) e, few))
+    before : (b : Bool) → nat_le (0 + 2 ^ 44) (arena_first t) ≡ b → (known : ℕ) → cond b known (min known (0 - arena_first t)) ≡ 0
+    before true e known = absurd (omega (arith, leb-true (0 + 2 ^ 44) (arena_first t) e, few))
     before false e known = omega arith
 
     go : (b : Bool) → nat_eq s space ≡ b → IsFull (space_at next s) t (full_pages fronts' s t)
     go false e = subst (λ m. IsFull m t (full_pages fronts' s t)) (sym (next_at e)) (subst (IsFull (space_at st s) t) (sym (others s t (eqb-false s space e) few)) (full s t small few))
     go true e =
-        let none : full_pages fronts' s t ≡ 0 = ap (λ n. full_pages fronts' n t) (eqb-true s space e) ∙ known t few ∙ before (nat_le (0 + 2 ^ 35) (arena_first t)) refl (full_pages fronts space t) in
+        let none : full_pages fronts' s t ≡ 0 = ap (λ n. full_pages fronts' n t) (eqb-true s space e) ∙ known t few ∙ before (nat_le (0 + 2 ^ 44) (arena_first t)) refl (full_pages fronts space t) in
         subst (IsFull (space_at next s) t) (sym none) (record { within = omega arith; cells_there = λ q a b. absurd (omega (arith, a, b)) })
 
 -- what the machine keeps
 pub exit_sound : (st : State) (space : ℕ) (cells : AddressSpace) (spaces : fin.FinMap nat_cmp AddressSpace) (tables : Tables) (counts counts' : Counts) (fronts fronts' : List ℕ) → IsSound st counts fronts → get st.spaces space ≡ Some cells →
     spaces ≡ fin.remove st.spaces space → tables ≡ set.retain st.tables (is_elsewhere space) → Follow counts counts' cells fin.empty →
-    ((t : ℕ) → t < 8 → full_pages fronts' space t ≡ full_before (arena_first t) (full_pages fronts space t) 0 (2 ^ 35)) → ((s t : ℕ) → (s ≡ space → ⊥) → t < 8 → full_pages fronts' s t ≡ full_pages fronts s t) →
+    ((t : ℕ) → t < 8 → full_pages fronts' space t ≡ full_before (arena_first t) (full_pages fronts space t) 0 (2 ^ 44)) → ((s t : ℕ) → (s ≡ space → ⊥) → t < 8 → full_pages fronts' s t ≡ full_pages fronts s t) →
     IsSound (record st { spaces = spaces; tables = tables }) counts' fronts'
 exit_sound st space cells spaces tables counts counts' fronts fronts' sound here without left follow known others =
     let next : State = record st { spaces = spaces; tables = tables } in

@@ -6,7 +6,7 @@ use Rattle.std.specs.FinMap as fin
 use Rattle.std.specs.FinMap.{get}
 use Rattle.page_map.specs.declared.cell.Cell.{Cell}
 use Rattle.page_map.specs.Cell.{frame_of, slot_of}
-use Rattle.page_map.specs.State.{State, AddressSpace, IsConsistent, cell_at, frame_owners, slot_owners, space_at, unused_frames, unused_slots}
+use Rattle.page_map.specs.State.{State, AddressSpace, IsConsistent, cell_at, frame_owners, space_at, unused_frames, unused_slots}
 use Rattle.plain_counts.specs.declared.counts.Counts.{Counts}
 use Rattle.plain_counts.specs.Counts.{AreCounted, Follow}
 use Rattle.plain_counts.specs.Fronts.{AreFull}
@@ -20,9 +20,6 @@ use Rattle.mm_model.proofs.Carried.{counts_are, unused_are, is_counted_in, count
 module _ (st : State) (counts : Counts) (fronts : List ℕ) (sound : IsSound st counts fronts) where
   pub frames_are : slice_index counts.frames ≡ frame_owners st
   frames_are = counts_are frame_of st st.limits.frames counts.frames sound.frame_counts sound.state.frames
-
-  pub slots_are : slice_index counts.slots ≡ slot_owners st
-  slots_are = counts_are slot_of st st.limits.swap counts.slots sound.slot_counts sound.state.slots
 
   pub free_frames : unused_of counts.frames ≡ unused_frames st
   free_frames = unused_are frame_of st st.limits.frames counts.frames sound.frame_counts sound.state.frames

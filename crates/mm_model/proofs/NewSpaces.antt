@@ -1,40 +1,36 @@
 -- A new space: what its numbers do to the counts, and what stays as it was.
-use Rattle.std.proofs.Common.{◌≡◌, ℕ, ◌+◌, ◌-◌, ◌≤◌, Bool, true, false, cond, not, List, [], ◌∷◌, Bor, refl, sym, ap, subst, ◌∙◌, arith}
+use Rattle.std.proofs.Common.{◌≡◌, ℕ, ◌+◌, Bool, true, false, cond, not, ◌&&◌, List, [], ◌∷◌, length, Bor, refl, sym, ap, subst, take_all, ◌∙◌, arith}
 use mathlib.Core.Bool.{true≢false}
-use mathlib.Core.Logic.{inl, inr}
-use Rattle.std.specs.Prelude.{Option, Some, None, IsSome, ◌||◌, ◌&&◌, is_some, nat_eq}
+use Rattle.std.specs.Prelude.{Option, Some, None, IsSome, is_some}
 use Rattle.std.specs.Option.{option_map_or, option_copied, unwrap_or}
 use Rattle.std.specs.List.{count_by}
-use Rattle.std.specs.Ordering.{nat_cmp, eq_by_cmp}
+use Rattle.std.specs.Ordering.{nat_cmp}
 use Rattle.std.specs.Cmp.{nat_cmp_total, nat_eq_equiv, unsigned_tied}
-use Rattle.std.proofs.lemmas.Bool.{or_cases, eqb-true}
 use Rattle.std.specs.FinMap as fin
 use Rattle.std.specs.FinMap.{get, get-empty, get-insert}
 use Rattle.std.specs.FinSet as set
-use Rattle.std.specs.FinSet.{same_set, contains-difference, contains-union, contains-from_list, contains-empty}
-use Rattle.corten_base.specs.declared.calls.Reply.{Reply}
-use Rattle.corten_base.specs.declared.calls.Reply.TheVariants as reply
+use Rattle.std.specs.FinSet.{same_set, contains-difference, contains-empty, contains-from_list, len-empty, len-insert}
 use Rattle.table_place.specs.declared.Place.{Place}
-use Rattle.table_place.specs.Place.{place_cmp, root, above}
+use Rattle.table_place.specs.Place.{place_cmp, root}
 use Rattle.page_map.specs.declared.cell.Cell.{Cell}
 use Rattle.page_map.specs.Cell.{frame_of, slot_of}
-use Rattle.page_map.specs.State.{State, AddressSpace, IsConsistent, space_at, carries, owners}
-use Rattle.page_map.specs.Tables.{Tables, need}
+use Rattle.page_map.specs.State.{State, AddressSpace, IsConsistent, levels, space_at, carries, owners}
+use Rattle.page_map.specs.Tables.{Tables, missing}
+use Rattle.page_map.specs.Spaces.{copied_tables}
+use Rattle.page_map.proofs.NeedOfCopies.{copies_missing}
 use Rattle.page_map.proofs.Places.{place_total, place_exact}
 use Rattle.page_map.proofs.Steps.{not_none}
 use Rattle.page_map.proofs.Owners.{same_some}
+use Rattle.page_map.proofs.Wanted.{is_wanted, root_is}
 use Rattle.page_map.proofs.Weights.{weight_insert}
-use Rattle.page_map.proofs.Growth.{is_wanted, grown_len, all_stay}
-use Rattle.page_map.proofs.Above.{any_append}
-use Rattle.plain_counts.specs.Levels.{is_elsewhere}
 use Rattle.plain_counts.specs.Fronts.{AreFull}
+use Rattle.plain_counts.specs.Levels.{Lists}
 use Rattle.plain_counts.specs.declared.counts.Counts.{Counts}
 use Rattle.plain_counts.specs.Counts.{carried, IsCounted, AreCounted}
-use Rattle.plain_spaces.specs.Copies.{IsRoomy, AreRoomy, JoinsAll, JoinAll, IsNewTo, tables_above, new_tables}
-use Rattle.plain_spaces.proofs.NewTables.{others_stay, none_lost, above_mine, root_mine}
-use Rattle.mm_model.specs.Placing.{tables_lack}
+use Rattle.plain_counts.proofs.Missing.{taken_out}
+use Rattle.plain_spaces.specs.Copies.{IsRoomy, AreRoomy, JoinsAll, JoinAll}
 use Rattle.mm_model.specs.Plain.{IsSound, owner_counts}
-use Rattle.mm_model.specs.NewSpaces.{with_space, AreOwned, MayMake, made, made_unless}
+use Rattle.mm_model.specs.NewSpaces.{with_space, AreOwned, MayMake}
 use Rattle.mm_model.proofs.Carried.{AreBelow, counts_long, counts_from, counted_at, each_count}
 use Rattle.mm_model.proofs.Full.{still_full, cells_stay}
 
@@ -74,76 +70,42 @@ born_full st new cells tables fronts absent full =
 
 -- ---- tables
 
--- an absent space has no tables
-pub new_to : (st : State) (new : ℕ) → IsConsistent st → get st.spaces new ≡ None → IsNewTo st.tables new
-new_to st new ok absent p h = go (nat_eq p.space new) refl
+-- tables of a space that is absent are not there
+pub absent_apart : (st : State) (new : ℕ) (wanted : List Place) → IsConsistent st → get st.spaces new ≡ None → ((q : Place) → is_wanted wanted q ≡ true → q.space ≡ new) →
+    missing wanted st.tables ≡ set.from_list wanted
+absent_apart st new wanted ok absent mine = same_set place_total place_exact _ _ (λ q.
+    contains-difference place_total (set.from_list wanted) st.tables q
+    ∙ go q (set.contains (set.from_list wanted) q) (set.contains st.tables q) (sym (contains-from_list place_total wanted q)) refl)
   where
-    go : (b : Bool) → nat_eq p.space new ≡ b → not b ≡ true
-    go false e = refl
-    go true e = absurd (true≢false (sym (ok.absent p h) ∙ ap (λ n. is_some (get st.spaces n)) (eqb-true p.space new e) ∙ ap is_some absent))
-
-tables_mine : (space : ℕ) (pages : List ℕ) (p : Place) → is_wanted (tables_above space pages) p ≡ true → is_elsewhere space p ≡ false
-tables_mine space [] p h = absurd (true≢false (sym h))
-tables_mine space (page ∷ pages) p h = elim (or_cases (is_wanted (above 4 space page 1) p) (is_wanted (tables_above space pages) p) (sym (any_append (eq_by_cmp place_cmp p) (above 4 space page 1) (tables_above space pages)) ∙ h)) [
-  | inl here ↦ above_mine space page p here
-  | inr later ↦ tables_mine space pages p later
-]
-
-new_mine : (space : ℕ) (cells : AddressSpace) (p : Place) → is_wanted (new_tables space cells) p ≡ true → is_elsewhere space p ≡ false
-new_mine space cells p h = elim (or_cases (eq_by_cmp place_cmp p (root 4 space)) (is_wanted (tables_above space (fin.keys cells)) p) h) [
-  | inl here ↦ root_mine space p (ap (λ b. b || false) here)
-  | inr later ↦ tables_mine space (fin.keys cells) p later
-]
-
--- those of the new space are taken out again
-pub taken_out : (st : State) (new : ℕ) (cells : AddressSpace) (tables : Tables) → IsConsistent st → get st.spaces new ≡ None → tables ≡ set.union st.tables (set.from_list (new_tables new cells)) →
-    set.retain tables (is_elsewhere new) ≡ st.tables
-taken_out st new cells tables ok absent put =
-    ap (λ s. set.retain s (is_elsewhere new)) put ∙ others_stay new st.tables (new_tables new cells) (new_mine new cells) ∙ none_lost st.tables new (new_to st new ok absent)
-
--- how many are put in
-pub put_in_len : (tables wanted_in : Tables) (wanted : List Place) → wanted_in ≡ set.union tables (set.from_list wanted) → set.len wanted_in ≡ set.len tables + need wanted tables
-put_in_len tables wanted_in wanted put =
-    ap set.len put ∙ ap (λ s. set.len (set.union s (set.from_list wanted))) (sym (all_stay (λ _. false) (λ _. refl) [] tables)) ∙ grown_len (λ _. false) (λ _. refl) wanted tables
-
--- none of them is there
-none_there : (tables : Tables) (new : ℕ) (cells : AddressSpace) → IsNewTo tables new → set.difference (set.from_list (new_tables new cells)) tables ≡ set.from_list (new_tables new cells)
-none_there tables new cells is_new = same_set place_total place_exact _ _ (λ q.
-    contains-difference place_total (set.from_list (new_tables new cells)) tables q
-    ∙ go q (set.contains (set.from_list (new_tables new cells)) q) (set.contains tables q) (sym (contains-from_list place_total (new_tables new cells) q)) refl)
-  where
-    go : (q : Place) (a b : Bool) → is_wanted (new_tables new cells) q ≡ a → set.contains tables q ≡ b → (a && not b) ≡ a
+    go : (q : Place) (a b : Bool) → is_wanted wanted q ≡ a → set.contains st.tables q ≡ b → (a && not b) ≡ a
     go q false b ea eb = refl
     go q true false ea eb = refl
-    go q true true ea eb = absurd (true≢false (sym (is_new q eb) ∙ new_mine new cells q ea))
+    go q true true ea eb = absurd (true≢false (sym (ok.absent q eb) ∙ ap (λ n. is_some (get st.spaces n)) (mine q ea) ∙ ap is_some absent))
 
-pub empty_new : (tables : Tables) (new : ℕ) → tables ≡ set.empty → IsNewTo tables new
-empty_new tables new e p h = absurd (true≢false (sym h ∙ ap (λ s. set.contains s p) e ∙ contains-empty place_cmp p))
+-- the root alone
+root_missing : (st : State) (new : ℕ) → IsConsistent st → get st.spaces new ≡ None → missing (root (levels st) new ∷ []) st.tables ≡ set.from_list (root (levels st) new ∷ [])
+root_missing st new ok absent = absent_apart st new (root (levels st) new ∷ []) ok absent (λ q h. ap (λ (p : Place). p.space) (root_is (levels st) new q h))
 
--- put in by themselves, they are as many as are needed
-pub alone : (st : State) (new : ℕ) (cells : AddressSpace) (none wanted : Tables) → IsConsistent st → get st.spaces new ≡ None → none ≡ set.empty → wanted ≡ set.union none (set.from_list (new_tables new cells)) →
-    set.len wanted ≡ need (new_tables new cells) st.tables
-alone st new cells none wanted ok absent e put =
-    ap set.len (put ∙ ap (λ s. set.union s (set.from_list (new_tables new cells))) e ∙ only (set.from_list (new_tables new cells)) ∙ sym (none_there st.tables new cells (new_to st new ok absent)))
-  where
-    only : (s : Tables) → set.union set.empty s ≡ s
-    only s = same_set place_total place_exact _ _ (λ q. contains-union place_total set.empty s q ∙ ap (λ b. b || set.contains s q) (contains-empty place_cmp q))
+root_once : (st : State) (new : ℕ) → IsConsistent st → get st.spaces new ≡ None → 1 ≡ set.len (missing (root (levels st) new ∷ []) st.tables)
+root_once st new ok absent = sym (ap set.len (root_missing st new ok absent) ∙ len-insert place_total set.empty (root (levels st) new) ∙ (λ i. cond (contains-empty place_cmp (root (levels st) new) i) (len-empty place_cmp i) (len-empty place_cmp i + 1)))
+
+pub root_listed : (st : State) (new : ℕ) (items : List Place) → IsConsistent st → get st.spaces new ≡ None → items ≡ root (levels st) new ∷ [] → Lists (missing (root (levels st) new ∷ []) st.tables) items
+root_listed st new items ok absent is =
+    subst (Lists (missing (root (levels st) new ∷ []) st.tables)) (sym is) (record { same = sym (root_missing st new ok absent); once = root_once st new ok absent })
+
+-- those of a copy
+pub copies_listed : (st : State) (space new : ℕ) (items : List Place) → IsConsistent st → get st.spaces new ≡ None → Lists (set.from_list (copied_tables st space new)) items → Lists (missing (copied_tables st space new) st.tables) items
+copies_listed st space new items ok absent lists = subst (λ s. Lists s items) (sym (copies_missing st space ok new (ap is_some absent))) lists
+
+-- tables that were put in and are taken out again
+pub taken_back : (tables put left : Tables) (items : List Place) → set.difference tables (set.from_list items) ≡ tables → put ≡ set.union tables (set.from_list items) → left ≡ set.difference put (set.from_list items) → left ≡ tables
+taken_back tables put left items apart put_is is =
+    is ∙ ap (λ s. set.difference s (set.from_list items)) (put_is ∙ ap (λ ps. set.union tables (set.from_list ps)) (sym (take_all (length items) items (omega arith))))
+    ∙ taken_out place_total place_exact tables items (length items) apart
 
 -- ---- what the machine keeps
 
-made_sound : (st : State) (new : ℕ) (cells : AddressSpace) (limbo : ℕ) (counts counts' : Counts) (fronts : List ℕ) → MayMake st new cells limbo → IsSound st counts fronts →
-    tables_lack st (new_tables new cells) limbo ≡ None → JoinAll counts counts' cells → IsSound (with_space st new cells) counts' fronts
-made_sound st new cells limbo counts counts' fronts may sound enough join = record {
-  state = may.keeps enough;
-  limits = sound.limits;
-  frame_counts = joined_counts frame_of st st.limits.frames counts.frames sound.frame_counts new cells (set.union st.tables (set.from_list (new_tables new cells))) counts'.frames may.absent join.frames;
-  slot_counts = joined_counts slot_of st st.limits.swap counts.slots sound.slot_counts new cells (set.union st.tables (set.from_list (new_tables new cells))) counts'.slots may.absent join.slots;
-  full = born_full st new cells (set.union st.tables (set.from_list (new_tables new cells))) fronts may.absent sound.full;
-}
-
--- ---- a space that may be made
-
-module _ (st : State) (new : ℕ) (cells : AddressSpace) (limbo : ℕ) (counts : Counts) (fronts : List ℕ) (may : MayMake st new cells limbo) (sound : IsSound st counts fronts) where
+module _ (st : State) (new : ℕ) (cells : AddressSpace) (tables : List Place) (counts : Counts) (fronts : List ℕ) (may : MayMake st new cells tables) (sound : IsSound st counts fronts) where
   pub counted_in : AreCounted counts cells
   counted_in = record {
     frames = owned_counted frame_of st st.limits.frames counts.frames sound.frame_counts sound.state.frames cells may.frames;
@@ -156,35 +118,28 @@ module _ (st : State) (new : ℕ) (cells : AddressSpace) (limbo : ℕ) (counts :
     slots = owned_roomy slot_of st st.limits.swap counts.slots sound.slot_counts sound.state.slots cells may.slots;
   }
 
-  pub is_new : IsNewTo st.tables new
-  is_new = new_to st new sound.state may.absent
+  abbrev with_tables : Tables
+  with_tables = set.union st.tables (set.from_list tables)
 
-  module _ (tables : Tables) (put : tables ≡ set.union st.tables (set.from_list (new_tables new cells))) where
-    grows : set.len tables ≡ set.len st.tables + need (new_tables new cells) st.tables
-    grows = put_in_len st.tables tables (new_tables new cells) put
+  made_sound : (counts' : Counts) → JoinAll counts counts' cells → IsSound (with_space st new cells tables) counts' fronts
+  made_sound counts' join = record {
+    state = may.keeps;
+    limits = sound.limits;
+    frame_counts = joined_counts frame_of st st.limits.frames counts.frames sound.frame_counts new cells with_tables counts'.frames may.absent join.frames;
+    slot_counts = joined_counts slot_of st st.limits.swap counts.slots sound.slot_counts new cells with_tables counts'.slots may.absent join.slots;
+    full = born_full st new cells with_tables fronts may.absent sound.full;
+  }
 
-    pub no_fewer : set.len st.tables ≤ set.len tables
-    no_fewer = omega (arith, grows)
+  module _ (put : Tables) (put_is : put ≡ with_tables) where
+    pub is_made : (spaces : fin.FinMap nat_cmp AddressSpace) → spaces ≡ fin.insert st.spaces new cells → record st { spaces = spaces; tables = put } ≡ with_space st new cells tables
+    is_made spaces is = λ i. record st { spaces = is i; tables = put_is i }
 
-    pub need_is : set.len tables - set.len st.tables ≡ need (new_tables new cells) st.tables
-    need_is = omega (arith, grows)
+    pub made_is_sound : (spaces : fin.FinMap nat_cmp AddressSpace) → spaces ≡ fin.insert st.spaces new cells → (counts' : Counts) → JoinAll counts counts' cells → IsSound (record st { spaces = spaces; tables = put }) counts' fronts
+    made_is_sound spaces is counts' join = subst (λ (n : State). IsSound n counts' fronts) (sym (is_made spaces is)) (made_sound counts' join)
 
-    pub back : (left : Tables) → left ≡ set.retain tables (is_elsewhere new) → left ≡ st.tables
-    back left is = is ∙ taken_out st new cells tables sound.state may.absent put
-
-    pub too_few : (r : Reply) → tables_lack st (new_tables new cells) limbo ≡ Some r → (left : Tables) → left ≡ set.retain tables (is_elsewhere new) → (r, record st { tables = left }) ≡ made st new cells limbo
-    too_few r lacks left is = (λ i. (r, record st { tables = back left is i })) ∙ sym (ap (λ o. made_unless o st new cells) lacks)
-
-    pub is_made : tables_lack st (new_tables new cells) limbo ≡ None → (spaces : fin.FinMap nat_cmp AddressSpace) → spaces ≡ fin.insert st.spaces new cells →
-        (reply.Space new, record st { spaces = spaces; tables = tables }) ≡ made st new cells limbo
-    is_made enough spaces is =
-        (λ i. (reply.Space new, record st { spaces = is i; tables = put i })) ∙ sym (ap (λ o. made_unless o st new cells) enough)
-
-    pub made_is_sound : tables_lack st (new_tables new cells) limbo ≡ None → (spaces : fin.FinMap nat_cmp AddressSpace) → spaces ≡ fin.insert st.spaces new cells →
-        (counts' : Counts) → JoinAll counts counts' cells → IsSound (record st { spaces = spaces; tables = tables }) counts' fronts
-    made_is_sound enough spaces is counts' join =
-        subst (λ (n : State). IsSound n counts' fronts) (sym (λ i. record st { spaces = is i; tables = put i }))
-        (made_sound st new cells limbo counts counts' fronts may sound enough join)
+    -- without memory they are taken out again
+    pub back : (left : Tables) → left ≡ set.difference put (set.from_list tables) → left ≡ st.tables
+    back left is = taken_back st.tables put left tables may.apart put_is is
 
 -- ---- what was just put in
 

@@ -1,102 +1,42 @@
--- A mapping whose pages may go to those from a page on: what is known of them, and what it leaves.
-use Rattle.std.proofs.Common.{◌≡◌, ℕ, ◌+◌, ◌*◌, ◌/◌, ◌%◌, ◌≤◌, ◌<◌, ◌^◌, true, false, List, [], length, Some, refl, sym, ap, ◌∙◌, arith}
-use Rattle.std.specs.Prelude.{◌&&◌, nat_eq, nat_le, nat_lt}
-use Rattle.std.specs.FinMap as map
-use Rattle.std.specs.FinSet as set
-use Rattle.std.proofs.lemmas.Bool.{ltb-true, leb-true, and_parts, eq-eqb}
-use Rattle.corten_base.specs.declared.calls.Backing.{Backing}
-use Rattle.corten_base.specs.declared.calls.Backing.TheVariants as backing
-use Rattle.corten_base.specs.declared.calls.Call.TheVariants as call
-use Rattle.corten_base.specs.declared.calls.MapPlace.TheVariants as place
-use Rattle.corten_base.specs.declared.calls.Reply.TheVariants as reply
-use Rattle.corten_base.specs.declared.calls.TxnOp.TheVariants as op
-use Rattle.table_place.specs.Place.{above, is_page_range, is_user_range, pages_of}
-use Rattle.page_map.specs.Mapping.{is_mappable, is_backing, after_op}
-use Rattle.page_map.specs.State.{State, AddressSpace, space_at}
-use Rattle.page_map.specs.Step.{step}
-use Rattle.page_map.specs.Tables.{Tables, need}
-use Rattle.page_map.proofs.Growth.{all_stay}
-use Rattle.page_map.proofs.Mappings.{gap_user, page_range}
-use Rattle.page_map.proofs.Steps.{Passed, passed, accepted}
-use Rattle.page_map.proofs.Unmapped.{held_of}
-use Rattle.page_runs.specs.Mark.{index_of}
-use Rattle.plain_counts.specs.Fronts.{AreFull}
-use Rattle.plain_counts.specs.declared.counts.Counts.{Counts}
-use Rattle.plain_counts.specs.Counts.{Follow}
-use Rattle.mm_model.specs.Placing.{IsPlaced, MayPut, after_put, call_of, filled, tables_with}
-use Rattle.mm_model.specs.Plain.{IsSound}
+-- A mapping at the least gap of an arena, as an operation.
+use Rattle.std.proofs.Common.{◌≡◌, ℕ, ◌*◌, ◌/◌, ◌%◌, ◌<◌, ◌≤◌, true, false, Some, refl, sym, ap, ◌∙◌, arith}
+use Rattle.std.specs.Prelude.{◌&&◌, nat_eq, nat_lt}
+use Rattle.std.proofs.lemmas.Bool.{and_parts, eq-eqb}
+use Rattle.table_place.specs.Place.{is_user_range, pages_of}
+use Rattle.page_map.specs.Mapping.{gap, is_backing, is_length, is_mappable}
+use Rattle.page_map.specs.State.{State, is_present, levels, space_at}
+use Rattle.page_map.proofs.Mappings.{gap_user, user_few}
+use Rattle.plain_counts.specs.declared.cut.Pages.{Pages}
+use Rattle.txn_plan.specs.Needs.{range_of}
+use Rattle.mm_model.specs.Placing.{IsPlaced, mapping_op}
 use Rattle.mm_model.specs.declared.mapping.Mapping.{Mapping}
-use Rattle.mm_model.proofs.OpCalls.{op_stays_sound}
-use Rattle.mm_model.proofs.OpSteps.{at_op, enough}
-use Rattle.mm_model.proofs.Placing.{answer_is, after_is, tables_are}
-
-small_index : (files : List (List ℕ)) (what : Backing) → is_backing files what ≡ true → index_of what ≤ 2 ^ 40
-small_index files backing.Zero h = omega arith
-small_index files (backing.File file index) h = leb-true index (2 ^ 40) (and_parts (nat_lt file (length files)) (nat_le index (2 ^ 40)) h).1
 
 first_page : (first : ℕ) → 4096 * first / 4096 ≡ first
 first_page first = omega arith
 
-module _ (st : State) (m : Mapping) (first : ℕ) (may : MayPut st m first) where
-  abbrev count : ℕ
-  count = pages_of m.len
-
-  mappable : is_mappable 4 st.files m.len m.backing ≡ true
-  mappable = (and_parts (is_mappable 4 st.files m.len m.backing) (is_page_range 4 (4096 * first) m.len) may.right).0
-
-  pub some_len : 0 < m.len
-  some_len = ltb-true 0 m.len (and_parts (nat_lt 0 m.len) (nat_le m.len (2 ^ 47)) (and_parts (nat_lt 0 m.len && nat_le m.len (2 ^ 47)) (is_backing st.files m.backing) mappable).0).0
-
-  len_fits : m.len ≤ 2 ^ 47
-  len_fits = leb-true m.len (2 ^ 47) (and_parts (nat_lt 0 m.len) (nat_le m.len (2 ^ 47)) (and_parts (nat_lt 0 m.len && nat_le m.len (2 ^ 47)) (is_backing st.files m.backing) mappable).0).1
-
-  pub index_fits : index_of m.backing + count < 2 ^ 64
-  index_fits = omega (arith, small_index st.files m.backing (and_parts (nat_lt 0 m.len && nat_le m.len (2 ^ 47)) (is_backing st.files m.backing) mappable).1, len_fits)
-
-  user : is_user_range 4 first count ≡ true
-  user = ap (λ n. is_user_range 4 n count) (sym (first_page first)) ∙ (page_range 4 (4096 * first) m.len (and_parts (is_mappable 4 st.files m.len m.backing) (is_page_range 4 (4096 * first) m.len) may.right).1).0
-
-  pub range_fits : first + count < 2 ^ 35
-  range_fits = ltb-true (first + count) (2 ^ 35) (and_parts (nat_le 16 first) (nat_lt (first + count) (2 ^ 35)) user).1
-
-  -- what the machine keeps
-  pub put_stays_sound : (cells cells' : AddressSpace) (tables' : Tables) (counts counts' : Counts) (fronts : List ℕ) → map.get st.spaces m.space ≡ Some cells →
-      cells' ≡ filled m first cells → tables' ≡ tables_with m first st.tables → IsSound st counts fronts →
-      Follow counts counts' cells cells' → AreFull (record st { spaces = map.insert st.spaces m.space cells'; tables = tables' }) fronts →
-      IsSound (record st { spaces = map.insert st.spaces m.space cells'; tables = tables' }) counts' fronts
-  unfolding after_op
-  put_stays_sound cells cells' tables' counts counts' fronts here cells_are tables_are sound follow full =
-      op_stays_sound st (call.Map m.space (place.At (4096 * first)) m.len m.perm m.backing) m.space (op.Map (4096 * first) false m.len m.perm m.backing) _ _ _ (at_op st m (4096 * first)) may.right cells here refl
-      cells' tables' (cells_are ∙ ap (λ n. filled m n cells) (sym (first_page first)))
-      (tables_are ∙ (λ i. set.union (sym (all_stay (λ _. false) (λ _. refl) [] st.tables) i) (set.from_list (above 4 m.space (sym (first_page first) i) count))))
-      counts counts' fronts fronts sound 0
-      (omega (arith, may.tables, ap (λ n. need (above 4 m.space n count) st.tables) (first_page first))) follow full
-
-module _ (st : State) (thread : ℕ) (m : Mapping) (limbo first : ℕ) (few : thread < 8) (placed : IsPlaced st thread m limbo first) where
-  all_passed : Passed st thread (call_of m) limbo
-  all_passed = passed st thread (call_of m) limbo placed.passes
-
-  mappable_here : is_mappable 4 st.files m.len m.backing ≡ true
-  mappable_here = held_of _ _ all_passed.arguments
-
-  some_here : nat_lt 0 m.len ≡ true
-  some_here = (and_parts (nat_lt 0 m.len) (nat_le m.len (2 ^ 47)) (and_parts (nat_lt 0 m.len && nat_le m.len (2 ^ 47)) (is_backing st.files m.backing) mappable_here).0).0
+module _ (st : State) (thread : ℕ) (m : Mapping) (first : ℕ) (some : 4 ≤ levels st) (known : levels st ≤ 5) (few : thread < 8)
+    (right : is_mappable (levels st) st.files m.len m.backing ≡ true) (present : is_present st m.space ≡ true) (at_gap : gap thread (space_at st m.space) (pages_of m.len) ≡ Some first) where
+  user_here : is_user_range (levels st) first (pages_of m.len) ≡ true
+  user_here = gap_user (levels st) thread (space_at st m.space) (pages_of m.len) first some few at_gap
 
   aligned : nat_eq (4096 * first % 4096) 0 ≡ true
   aligned = eq-eqb (4096 * first % 4096) 0 (omega arith)
 
-  user_here : is_user_range 4 (4096 * first / 4096) (pages_of m.len) ≡ true
-  user_here = ap (λ n. is_user_range 4 n (pages_of m.len)) (first_page first) ∙ gap_user thread (space_at st m.space) (pages_of m.len) first few placed.at_gap
+  some_len : nat_lt 0 m.len ≡ true
+  some_len = (and_parts (nat_lt 0 m.len) _ (and_parts (is_length (levels st) m.len) (is_backing st.files m.backing) right).0).0
 
-  -- at the least gap of an arena
-  pub may_put : MayPut st m first
-  may_put = record {
-    right = λ i. mappable_here i && (aligned i && some_here i && user_here i);
-    present = held_of _ _ all_passed.space;
-    tables = omega (arith, enough st (above 4 m.space first (pages_of m.len)) limbo (sym (tables_are st thread m limbo first placed.at_gap) ∙ all_passed.tables));
+  pub is_placed : IsPlaced st thread m first
+  is_placed = record {
+    right = right;
+    present = present;
+    at_gap = at_gap;
+    fits = record {
+      right = λ i. right i && (aligned i && some_len i && (ap (λ n. is_user_range (levels st) n (pages_of m.len)) (first_page first) ∙ user_here) i);
+      present = present;
+      allowed = refl;
+    };
+    low = user_few (levels st) first (pages_of m.len) known user_here;
   }
 
-  pub step_is : (reply.At (4096 * first), after_put st m first) ≡ step st thread (call_of m) limbo
-  step_is =
-      sym (accepted st thread (call_of m) limbo placed.passes
-      ∙ (λ i. (answer_is st thread m limbo first placed.at_gap i, after_is st thread m limbo first placed.at_gap i)))
+pub placed_range : (m : Mapping) (first count : ℕ) → count ≡ pages_of m.len → ◌≡◌ {A = Pages} (record { first = first; count = count }) (range_of (mapping_op m (4096 * first) false))
+placed_range m first count e = λ i. record { first = sym (first_page first) i; count = e i }

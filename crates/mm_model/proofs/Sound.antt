@@ -12,7 +12,7 @@ use Rattle.mm_model.proofs.Counts.{start_owners, no_owners}
 pub start_is_sound : (limits : Limits) (files : List (List ℕ)) → IsWithinLimits limits → (counts : Counts) → counts.frames ≡ replicate limits.frames 0 → counts.slots ≡ replicate limits.swap 0 → IsSound (start limits files) counts (replicate 512 0)
 unfolding start
 start_is_sound limits files within counts frames slots = record {
-  state = start_is_consistent limits files within.some_table;
+  state = start_is_consistent limits files within.some_levels within.few_levels within.some_table;
   limits = within;
   frame_counts = frames ∙ no_owners (frame_owners (start limits files)) limits.frames (start_owners frame_of limits files);
   slot_counts = slots ∙ no_owners (slot_owners (start limits files)) limits.swap (start_owners slot_of limits files);

@@ -1,7 +1,11 @@
 pub mod Plain
+pub mod Lacking
 pub mod Accesses
+pub mod Operations
 pub mod Placing
+pub mod Remapping
 pub mod Served
 pub mod NewSpaces
 pub mod Transactions
 pub mod Moves
+pub mod Steps

@@ -18,3 +18,5 @@ IsServed (call.Exit space) = Unit {0}
 IsServed (call.SwapOut space at len) = Unit {0}
 IsServed (call.SwapIn space at len) = Unit {0}
 IsServed (call.Txn space at len ops) = Unit {0}
+IsServed (call.DontNeed space at len) = Unit {0}
+IsServed (call.Remap space at old_len new_len) = Unit {0}

@@ -2,10 +2,14 @@
 #![tactic(auto)]
 
 mod accesses;
+mod changed;
+mod given_back;
 mod lacking;
 mod mapping;
+mod operating;
 mod operations;
 mod plain;
+mod remapping;
 mod spaces;
 mod step;
 mod swapping;

@@ -1,12 +1,13 @@
 //! Unmapping pages, and new permissions for them.
-ghost use Rattle.std.specs.Prelude.{◌≡◌, ℕ, ◌+◌, ◌≤◌, IfOk, OnErr};
+ghost use Rattle.std.specs.Prelude.{◌≡◌, ◌+◌, ◌≤◌, IfOk, OnErr};
 ghost use Rattle.corten_base.specs.declared.calls.Call.TheVariants as call;
 ghost use Rattle.page_map.specs.State.{linked};
-ghost use Rattle.page_map.specs.Step.{step};
+ghost use Rattle.mm_model.specs.Steps.{IsStepBeside};
 
+use crate::lacking::refusal;
+use crate::operating::pages_in;
 use crate::plain::Plain;
-use corten_base::{Perm, Range, Reply, SpaceId};
-use plain_spaces::unmap_pages;
+use corten_base::{Perm, Range, Reply, SpaceId, TxnOp};
 use std::alloc::{AllocError, Global};
 
 impl Plain {
@@ -17,48 +18,58 @@ impl Plain {
         space: SpaceId,
         at: u64,
         len: u64,
+        limbo: u32,
     ) -> Result<Reply, AllocError>
-        ensures ok { IfOk result (λ reply. (thread limbo : ℕ) → linked self.old + limbo ≤ self.old.limits.tables
-            → (reply, self.new) ≡ step self.old thread (call.Unmap space at len) limbo) }
+        requires { linked self.old + limbo ≤ self.old.limits.tables }
+        ensures ok { IfOk result (IsStepBeside limbo self.old self.new (call.Unmap space at len)) }
         ensures err { OnErr result (self.new ≡ self.old) }
     {
-        let Some(range) = Range::of_bytes(at, len) else {
+        let spaces = &self.spaces;
+        let number = space.number();
+        let Some(range) = Range::of_bytes(at, len, self.limits.levels) else {
             return Ok(Reply::Einval);
         };
-        let number = space.number();
-        let Some(cells) = self.spaces.get_mut(number) else {
+        if spaces.get(number).is_none() {
             return Ok(Reply::NoSpace);
-        };
-        let (first, count) = (range.first(), range.count());
-        unmap_pages(alloc, cells, &mut self.counts, first, count)?;
-        self.tables.remove_inside(number, first, count);
-        self.fronts.forget(number, first, count);
-        Ok(Reply::Ok)
+        }
+        let op = TxnOp::Unmap { at, len };
+        match self.operate(alloc, number, &op, pages_in(range), limbo) {
+            Ok(()) => Ok(Reply::Ok),
+            Err(stop) => refusal(stop),
+        }
     }
 
     /// Gives the pages of a range other permissions, if all of them are mapped.
     pub(crate) fn protect(
         &mut self,
+        alloc: Global,
         space: SpaceId,
         at: u64,
         len: u64,
         perm: Perm,
+        limbo: u32,
     ) -> Result<Reply, AllocError>
-        ensures ok { IfOk result (λ reply. (thread limbo : ℕ) → linked self.old + limbo ≤ self.old.limits.tables
-            → (reply, self.new) ≡ step self.old thread (call.Protect space at len perm) limbo) }
+        requires { linked self.old + limbo ≤ self.old.limits.tables }
+        ensures ok { IfOk result
+            (IsStepBeside limbo self.old self.new (call.Protect space at len perm)) }
         ensures err { OnErr result (self.new ≡ self.old) }
     {
-        let Some(range) = Range::of_bytes(at, len) else {
+        let spaces = &self.spaces;
+        let number = space.number();
+        let Some(range) = Range::of_bytes(at, len, self.limits.levels) else {
             return Ok(Reply::Einval);
         };
-        let Some(cells) = self.spaces.get_mut(space.number()) else {
+        let Some(cells) = spaces.get(number) else {
             return Ok(Reply::NoSpace);
         };
         let (first, count) = (range.first(), range.count());
         if let Some(hole) = cells.hole(first, count) {
             return Ok(Reply::Hole(4096 * hole));
         }
-        cells.protect(first, count, perm)?;
-        Ok(Reply::Ok)
+        let op = TxnOp::Protect { at, len, perm };
+        match self.operate(alloc, number, &op, pages_in(range), limbo) {
+            Ok(()) => Ok(Reply::Ok),
+            Err(stop) => refusal(stop),
+        }
     }
 }

@@ -3,6 +3,7 @@ ghost use Rattle.std.specs.Prelude.{◌≡◌, ◌+◌, ◌≤◌, IfOk};
 ghost use Rattle.std.specs.Option.{option_map};
 ghost use Rattle.std.specs.FinMap as map;
 ghost use Rattle.std.specs.FinSet as set;
+ghost use Rattle.table_place.specs.Place.{root};
 ghost use Rattle.page_map.specs.Cell.{status_of};
 ghost use Rattle.page_map.specs.State.{IsWithinLimits, start, linked, accounts};
 
@@ -41,10 +42,13 @@ impl Model for Plain {
 
     ghost coded = { state_code };
 
-    ghost view = { λ a. record { spaces = a.spaces; tables = a.tables; limits = a.limits; files = a.shelf } };
+    ghost view = { λ a.
+        record { spaces = a.spaces; tables = a.tables; limits = a.limits; files = a.shelf } };
 
     ghost invariant = { λ a.
-        IsSound (record { spaces = a.spaces; tables = a.tables; limits = a.limits; files = a.shelf }) a.counts a.fronts };
+        IsSound
+        (record { spaces = a.spaces; tables = a.tables; limits = a.limits; files = a.shelf })
+        a.counts a.fronts };
 }
 
 /// Space 0, with no cell.
@@ -57,13 +61,13 @@ fn first_space(alloc: Global) -> Result<Spaces, AllocError>
 }
 
 /// The page table at the top of space 0.
-fn first_root(alloc: Global) -> Result<Tables, AllocError>
-    ensures { IfOk result (λ tables. tables ≡ set.insert set.empty (record { space = 0; level = 4; prefix = 0 })) }
+fn first_root(alloc: Global, levels: u8) -> Result<Tables, AllocError>
+    ensures { IfOk result (λ tables. tables ≡ set.insert set.empty (root levels 0)) }
 {
     let mut tables = Tables::new(alloc);
     tables.insert(Place {
         space: 0,
-        level: 4,
+        level: levels,
         prefix: 0,
     })?;
     Ok(tables)
@@ -77,7 +81,7 @@ impl Plain {
         ensures fits { IfOk result (λ plain. linked plain ≤ plain.limits.tables) }
     {
         let spaces = first_space(alloc)?;
-        let tables = first_root(alloc)?;
+        let tables = first_root(alloc, limits.levels)?;
         Ok(Plain {
             spaces,
             tables,
@@ -90,7 +94,8 @@ impl Plain {
 
     /// What stands at a page of a space; `None` where the space is absent.
     pub fn status(&self, space: SpaceId, page: u64) -> Option<Status>
-        ensures { result ≡ option_map (λ cells. status_of (map.get cells page)) (map.get self.now.spaces space) }
+        ensures { result
+            ≡ option_map (λ cells. status_of (map.get cells page)) (map.get self.now.spaces space) }
     {
         let cells = self.spaces.get(space.number())?;
         Some(cells.status(page))

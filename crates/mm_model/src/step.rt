@@ -46,7 +46,8 @@ impl Plain {
         requires thread { thread < 8 }
         requires legal { linked self.old + limbo ≤ self.old.limits.tables }
         ensures ok { IfOk result (λ reply. (reply, self.new)
-            ≡ step self.old thread (call.Map mapping.now.space place mapping.now.len mapping.now.perm mapping.now.backing) limbo) }
+            ≡ step self.old thread (call.Map mapping.now.space place mapping.now.len
+            mapping.now.perm mapping.now.backing) limbo) }
         ensures err { OnErr result (self.new ≡ self.old) }
     {
         match place {
@@ -67,7 +68,8 @@ impl Plain {
         requires thread { thread < 8 }
         requires served { IsServed call.now }
         requires legal { linked self.old + limbo ≤ self.old.limits.tables }
-        ensures ok { IfOk result (λ reply. (reply, self.new) ≡ step self.old thread call.now limbo) }
+        ensures ok { IfOk result (λ reply.
+            (reply, self.new) ≡ step self.old thread call.now limbo) }
         ensures err { OnErr result (self.new ≡ self.old) }
     {
         match call {
@@ -86,16 +88,16 @@ impl Plain {
                 };
                 self.map(alloc, thread, &mapping, *place, limbo)
             }
-            Call::Unmap { space, at, len } => self.unmap(alloc, *space, *at, *len),
+            Call::Unmap { space, at, len } => self.unmap(alloc, *space, *at, *len, limbo),
             Call::Protect {
                 space,
                 at,
                 len,
                 perm,
-            } => self.protect(*space, *at, *len, *perm),
-            Call::Load { space, at, len } => self.load(alloc, *space, *at, *len),
-            Call::Store { space, at, bytes } => self.store(alloc, *space, *at, bytes),
-            Call::Fault { space, at, write } => self.fault(alloc, *space, *at, *write),
+            } => self.protect(alloc, *space, *at, *len, *perm, limbo),
+            Call::Load { space, at, len } => self.load(alloc, *space, *at, *len, limbo),
+            Call::Store { space, at, bytes } => self.store(alloc, *space, *at, bytes, limbo),
+            Call::Fault { space, at, write } => self.fault(alloc, *space, *at, *write, limbo),
             Call::Spawn => self.spawn(alloc, limbo),
             Call::Fork { space } => self.fork(alloc, *space, limbo),
             Call::Exit { space } => Ok(self.exit(*space)),
@@ -107,6 +109,13 @@ impl Plain {
                 len,
                 ops,
             } => self.transact(alloc, *space, *at, *len, ops, limbo),
+            Call::DontNeed { space, at, len } => self.give_back(alloc, *space, *at, *len),
+            Call::Remap {
+                space,
+                at,
+                old_len,
+                new_len,
+            } => self.remap(alloc, thread, *space, *at, *old_len, *new_len, limbo),
         }
     }
 
@@ -122,8 +131,10 @@ impl Plain {
     ) -> Result<Reply, StepFault>
         requires thread { thread < 8 }
         requires served { IsServed call.now }
-        ensures ok { IfOk result (λ reply. (reply, self.new) ≡ step self.old thread call.now limbo) }
-        ensures not_legal { (result ≡ Err StepFault.NotLegal) ↔ (self.old.limits.tables < linked self.old + limbo) }
+        ensures ok { IfOk result (λ reply.
+            (reply, self.new) ≡ step self.old thread call.now limbo) }
+        ensures not_legal { (result ≡ Err StepFault.NotLegal)
+            ↔ (self.old.limits.tables < linked self.old + limbo) }
         ensures err { OnErr result (self.new ≡ self.old) }
         ensures fits { linked self.new ≤ self.new.limits.tables }
     {

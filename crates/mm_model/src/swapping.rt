@@ -1,9 +1,8 @@
 //! Moving pages to swap slots and back.
-ghost use Rattle.std.specs.Prelude.{◌≡◌, ℕ, ◌+◌, ◌≤◌};
+ghost use Rattle.std.specs.Prelude.{◌≡◌};
 ghost use Rattle.corten_base.specs.declared.calls.Call.TheVariants as call;
-ghost use Rattle.page_map.specs.State.{linked};
-ghost use Rattle.page_map.specs.Step.{step};
 ghost use Rattle.mm_model.specs.Moves.{move_call, too_few};
+ghost use Rattle.mm_model.specs.Steps.{IsStep};
 
 use crate::plain::Plain;
 use corten_base::{Range, Reply, SpaceId};
@@ -22,10 +21,9 @@ fn too_few(way: Move, free: u32, need: u32) -> Reply
 impl Plain {
     /// Moves the pages of a range that go this way, in the time of those that have frames or slots.
     fn move_pages(&mut self, way: Move, space: SpaceId, at: u64, len: u64) -> Reply
-        ensures { (thread limbo : ℕ) → linked self.old + limbo ≤ self.old.limits.tables
-            → (result, self.new) ≡ step self.old thread (move_call way space at len) limbo }
+        ensures { IsStep self.old self.new (move_call way space at len) result }
     {
-        let Some(range) = Range::of_bytes(at, len) else {
+        let Some(range) = Range::of_bytes(at, len, self.limits.levels) else {
             return Reply::Einval;
         };
         let Some(cells) = self.spaces.get_mut(space.number()) else {
@@ -43,16 +41,14 @@ impl Plain {
 
     /// Moves the pages of a range that have frames of their own to swap slots.
     pub(crate) fn swap_out(&mut self, space: SpaceId, at: u64, len: u64) -> Reply
-        ensures { (thread limbo : ℕ) → linked self.old + limbo ≤ self.old.limits.tables
-            → (result, self.new) ≡ step self.old thread (call.SwapOut space at len) limbo }
+        ensures { IsStep self.old self.new (call.SwapOut space at len) result }
     {
         self.move_pages(Move::Out, space, at, len)
     }
 
     /// Moves the pages of a range that have swap slots back to frames.
     pub(crate) fn swap_in(&mut self, space: SpaceId, at: u64, len: u64) -> Reply
-        ensures { (thread limbo : ℕ) → linked self.old + limbo ≤ self.old.limits.tables
-            → (result, self.new) ≡ step self.old thread (call.SwapIn space at len) limbo }
+        ensures { IsStep self.old self.new (call.SwapIn space at len) result }
     {
         self.move_pages(Move::In, space, at, len)
     }

@@ -1,62 +1,65 @@
 //! Transactions.
-ghost use Rattle.std.specs.Prelude.{◌≡◌, ℕ, ◌+◌, ◌≤◌, IfOk, OnOk, OnErr};
-ghost use Rattle.std.specs.List.{All, flat_map};
+ghost use Rattle.std.specs.Prelude.{◌≡◌, ◌+◌, ◌≤◌, IfOk, IfErr, IfSome, OnOk, OnErr};
 ghost use Rattle.corten_base.specs.declared.calls.Call.TheVariants as call;
-ghost use Rattle.page_map.specs.Effect.{above_op};
 ghost use Rattle.page_map.specs.State.{linked};
-ghost use Rattle.page_map.specs.Step.{refusal, step};
-ghost use Rattle.txn_plan.specs.Needs.{IsInSpan};
-ghost use Rattle.mm_model.specs.Placing.{tables_lack};
-ghost use Rattle.mm_model.specs.Transactions.{MayCommit, after_commit};
+ghost use Rattle.plain_spaces.specs.Wants.{refusal_of};
+ghost use Rattle.mm_model.specs.Steps.{IsStepBeside, PassesBeside, Refuses};
+ghost use Rattle.mm_model.specs.Transactions.{AreLackedByAll, MayCommit, after_commit};
 
-use crate::lacking::lack;
+use crate::lacking::refusal;
 use crate::plain::Plain;
-use corten_base::{OpList, Range, Reply, SpaceId, TxnOp};
+use corten_base::{OpList, Range, Reply, SpaceId};
+use plain_spaces::Stop;
 use std::alloc::{AllocError, Global};
-use txn_plan::{commit, first_undone, forget_unmapped, tables_needed};
+use table_place::Place;
+use txn_plan::{commit, first_undone, forget_unmapped, missing_tables};
 
 impl Plain {
-    /// The reply that there are too few page tables for the pages that operations map, if there are.
-    fn lack_of_tables_above(&self, space: u8, ops: &[TxnOp], limbo: u32) -> Option<Reply>
-        requires span { All IsInSpan ops.now }
-        requires legal { linked self.now + limbo ≤ self.now.limits.tables }
-        ensures { result ≡ tables_lack self.now (flat_map (above_op self.now space) ops.now) limbo }
-    {
-        let linked = self.tables.len() as u32;
-        let need = tables_needed(&self.tables, space, ops);
-        lack(self.limits.tables, linked, limbo, need)
-    }
-
-    /// The reply with which a transaction is refused, if it is. No page is made for it.
-    fn transaction_refusal(
+    /// The page tables that a transaction lacks, or why it is refused: for its operations, or for want of page tables. No
+    /// page is made for it.
+    fn judge(
         &self,
+        alloc: Global,
         space: SpaceId,
         at: u64,
         len: u64,
         ops: &OpList,
         limbo: u32,
-    ) -> Option<Reply>
+    ) -> Result<Vec<Place>, Stop>
         requires { linked self.now + limbo ≤ self.now.limits.tables }
-        ensures { (thread : ℕ) → result ≡ refusal self.now thread (call.Txn space at len ops.now) limbo }
+        ensures passes { IfOk result (λ _.
+            PassesBeside limbo self.now (call.Txn space at len ops.now)) }
+        ensures missing { IfOk result (λ found. AreLackedByAll self.now space ops.now found.items) }
+        ensures refused { IfErr result (λ stop. IfSome (refusal_of stop)
+            (Refuses self.now limbo (call.Txn space at len ops.now))) }
     {
         let spaces = &self.spaces;
+        let levels = self.limits.levels;
         let number = space.number();
-        let Some(range) = Range::of_bytes(at, len) else {
-            return Some(Reply::Einval);
+        let Some(range) = Range::of_bytes(at, len, levels) else {
+            return Err(Stop::Refused(Reply::Einval));
         };
         let Some(cells) = spaces.get(number) else {
-            return Some(Reply::NoSpace);
+            return Err(Stop::Refused(Reply::NoSpace));
         };
         let list = ops.ops();
-        match first_undone(cells, &self.shelf, range, list) {
-            Some((place, why)) => Some(Reply::Undone(place, why)),
-            None => self.lack_of_tables_above(number, list, limbo),
+        if let Some((place, why)) = first_undone(levels, cells, &self.shelf, range, list) {
+            return Err(Stop::Refused(Reply::Undone(place, why)));
         }
+        let missing = missing_tables(alloc, &self.tables, levels, number, list)?;
+        self.affordable(missing, limbo)
     }
 
-    /// Makes the operations of a transaction that nothing refuses.
-    fn commit(&mut self, alloc: Global, space: SpaceId, ops: &OpList) -> Result<(), AllocError>
-        requires { MayCommit self.old space ops.now }
+    /// Makes the operations of a transaction that nothing refuses, and puts in the page tables that it lacks.
+    fn commit(
+        &mut self,
+        alloc: Global,
+        space: SpaceId,
+        ops: &OpList,
+        missing: &[Place],
+    ) -> Result<(), AllocError>
+        requires may { MayCommit self.old space ops.now }
+        requires missing { AreLackedByAll self.old space ops.now missing.now }
         ensures ok { OnOk result (self.new ≡ after_commit self.old space ops.now) }
         ensures err { OnErr result (self.new ≡ self.old) }
     {
@@ -64,7 +67,7 @@ impl Plain {
         let list = ops.ops();
         let cells = self.spaces.get_mut(number).unwrap();
         let tables = &mut self.tables;
-        commit(alloc, cells, tables, &mut self.counts, number, list)?;
+        commit(alloc, cells, tables, &mut self.counts, list, missing)?;
         forget_unmapped(&mut self.fronts, number, list);
         Ok(())
     }
@@ -80,15 +83,16 @@ impl Plain {
         limbo: u32,
     ) -> Result<Reply, AllocError>
         requires { linked self.old + limbo ≤ self.old.limits.tables }
-        ensures ok { IfOk result (λ reply. (thread : ℕ) → (reply, self.new) ≡ step self.old thread (call.Txn space at len ops.now) limbo) }
+        ensures ok { IfOk result
+            (IsStepBeside limbo self.old self.new (call.Txn space at len ops.now)) }
         ensures err { OnErr result (self.new ≡ self.old) }
     {
-        match self.transaction_refusal(space, at, len, ops, limbo) {
-            Some(refused) => Ok(refused),
-            None => {
-                self.commit(alloc, space, ops)?;
+        match self.judge(alloc, space, at, len, ops, limbo) {
+            Ok(missing) => {
+                self.commit(alloc, space, ops, &missing)?;
                 Ok(Reply::Done)
             }
+            Err(stop) => refusal(stop),
         }
     }
 }

@@ -9,7 +9,7 @@ use Rattle.text_words.specs.Spelling.{number}
 use Rattle.text_words.specs.Layout.{IsWord, joined, words_of}
 use Rattle.text_words.proofs.WordLists.{joined-words_of, words_of-joined}
 use Rattle.mm_script.specs.CallLine.{call_line, IsCall, IsWithin}
-use Rattle.mm_script.specs.ScriptText.{limit_words, limit_lines, file_line, file_lines, header_lines, thread_lines, script_lines, most_threads, AreLimits, IsFile, AreFiles, AreThreads, IsScript}
+use Rattle.mm_script.specs.ScriptText.{limit_words, limit_lines, file_line, file_lines, header_lines, thread_lines, script_lines, most_threads, AreLimits, AreScriptLimits, IsFile, AreFiles, AreThreads, IsScript}
 use Rattle.mm_script.specs.Reading.{Begins}
 use Rattle.mm_script.specs.declared.script.Script.{Script}
 use Rattle.mm_script.proofs.OneCall.{HasNo_letters, length_word_has_no}
@@ -19,7 +19,7 @@ abbrev pub script_of : Limits → List (List ℕ) → List (List Call) → Scrip
 script_of limits files threads = record { limits = limits; shelf = files; threads = threads }
 
 abbrev pub limits_of : ℕ → ℕ → ℕ → Limits
-limits_of frames tables swap = record { frames = frames; tables = tables; swap = swap }
+limits_of frames tables swap = record { levels = 4; frames = frames; tables = tables; swap = swap }
 
 -- the lines of threads, of which the last may go on
 abbrev pub open_lines : List (List Call) → List Call → List (List ℕ)
@@ -53,6 +53,9 @@ limit_line_is line name n are = sym (joined-words_of line) ∙ ap joined are
 smallest : AreLimits (limits_of 1 1 0)
 smallest = record { frames = (omega arith, omega arith); tables = (omega arith, omega arith); swap = (omega arith, omega arith) }
 
+of_script : (f t s : ℕ) → AreLimits (limits_of f t s) → AreScriptLimits (limits_of f t s)
+of_script f t s h = record { numbers = h; levels = refl }
+
 no_files : AreFiles []
 no_files = record { count = omega arith; each = All-nil IsFile }
 
@@ -63,7 +66,7 @@ pub Begins-none : Begins []
 Begins-none = record {
   script = script_of (limits_of 1 1 0) [] ([] ∷ []);
   more = script_lines (script_of (limits_of 1 1 0) [] ([] ∷ []));
-  is_script = record { limits = smallest; files = no_files; threads = one_thread };
+  is_script = record { limits = of_script 1 1 0 smallest; files = no_files; threads = one_thread };
   goes_on = refl;
 }
 
@@ -71,7 +74,7 @@ pub Begins-frames : (f : ℕ) → IsWithin 1 4096 f → Begins (joined (limit_wo
 Begins-frames f h = record {
   script = script_of (limits_of f 1 0) [] ([] ∷ []);
   more = joined (limit_words (codes "tables") 1) ∷ joined (limit_words (codes "swap") 0) ∷ codes "thread" ∷ [];
-  is_script = record { limits = record { frames = h; tables = smallest.tables; swap = smallest.swap }; files = no_files; threads = one_thread };
+  is_script = record { limits = of_script f 1 0 (record { frames = h; tables = smallest.tables; swap = smallest.swap }); files = no_files; threads = one_thread };
   goes_on = refl;
 }
 
@@ -79,11 +82,11 @@ pub Begins-tables : (f t : ℕ) → IsWithin 1 4096 f → IsWithin 1 1023 t → 
 Begins-tables f t hf ht = record {
   script = script_of (limits_of f t 0) [] ([] ∷ []);
   more = joined (limit_words (codes "swap") 0) ∷ codes "thread" ∷ [];
-  is_script = record { limits = record { frames = hf; tables = ht; swap = smallest.swap }; files = no_files; threads = one_thread };
+  is_script = record { limits = of_script f t 0 (record { frames = hf; tables = ht; swap = smallest.swap }); files = no_files; threads = one_thread };
   goes_on = refl;
 }
 
-pub Begins-header : (limits : Limits) (files : List (List ℕ)) → AreLimits limits → AreFiles files → Begins (header_lines limits files)
+pub Begins-header : (limits : Limits) (files : List (List ℕ)) → AreScriptLimits limits → AreFiles files → Begins (header_lines limits files)
 Begins-header limits files hl hf = record {
   script = script_of limits files ([] ∷ []);
   more = codes "thread" ∷ [];
@@ -91,7 +94,7 @@ Begins-header limits files hl hf = record {
   goes_on = refl;
 }
 
-pub Begins-calls : (limits : Limits) (files : List (List ℕ)) (threads : List (List Call)) (calls : List Call) → AreLimits limits → AreFiles files → All (All IsCall) threads → All IsCall calls → length threads < most_threads → Begins (header_lines limits files ++ open_lines threads calls)
+pub Begins-calls : (limits : Limits) (files : List (List ℕ)) (threads : List (List Call)) (calls : List Call) → AreScriptLimits limits → AreFiles files → All (All IsCall) threads → All IsCall calls → length threads < most_threads → Begins (header_lines limits files ++ open_lines threads calls)
 Begins-calls limits files threads calls hl hf ht hc few = record {
   script = script_of limits files (threads ++ calls ∷ []);
   more = [];
@@ -106,21 +109,21 @@ limit_is_within line name n low high is_word fits within none is = none n within
 pub no_frames : (line : List ℕ) → ((n : ℕ) → IsWithin 1 4096 n → words_of line ≢ limit_words (codes "frames") n) → ¬ (Begins ([] ++ line ∷ []))
 no_frames line none b =
     let n : ℕ = b.script.limits.frames in
-    let within = b.is_script.limits.frames in
+    let within = b.is_script.limits.numbers.frames in
     let goes_on = b.goes_on in
     limit_is_within line (codes "frames") n 1 4096 frames_IsWord (omega (arith, within.1)) within none (cc goes_on)
 
 pub no_tables : (first line : List ℕ) → ((n : ℕ) → IsWithin 1 1023 n → words_of line ≢ limit_words (codes "tables") n) → ¬ (Begins ((first ∷ []) ++ line ∷ []))
 no_tables first line none b =
     let n : ℕ = b.script.limits.tables in
-    let within = b.is_script.limits.tables in
+    let within = b.is_script.limits.numbers.tables in
     let goes_on = b.goes_on in
     limit_is_within line (codes "tables") n 1 1023 tables_IsWord (omega (arith, within.1)) within none (cc goes_on)
 
 pub no_swap : (first second line : List ℕ) → ((n : ℕ) → IsWithin 0 4096 n → words_of line ≢ limit_words (codes "swap") n) → ¬ (Begins ((first ∷ second ∷ []) ++ line ∷ []))
 no_swap first second line none b =
     let n : ℕ = b.script.limits.swap in
-    let within = b.is_script.limits.swap in
+    let within = b.is_script.limits.numbers.swap in
     let goes_on = b.goes_on in
     limit_is_within line (codes "swap") n 0 4096 swap_IsWord (omega (arith, within.1)) within none (cc goes_on)
 

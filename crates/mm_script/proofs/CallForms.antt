@@ -92,6 +92,18 @@ pub no_txn : (words : List (List ℕ))
 no_txn words none (call.Txn space at len ops) rest h ends are = none space at len ops rest h.0 h.1 h.2 h.3 ends (cc)
 no_txn words none _ rest h ends are = other_word (codes "txn") _ _ _ refl are
 
+pub no_dontneed : (words : List (List ℕ))
+    → ((space at len : ℕ) (rest : List (List ℕ)) → IsSpace space → IsNumber at → IsNumber len → words ≢ number space ∷ address at ∷ number len ∷ rest)
+    → (c : Call) (rest : List (List ℕ)) → IsCall c → codes "dontneed" ∷ words ≢ call_words c ++ rest
+no_dontneed words none (call.DontNeed space at len) rest h are = none space at len rest h.0 h.1 h.2 (cc)
+no_dontneed words none _ rest h are = other_word (codes "dontneed") _ _ _ refl are
+
+pub no_remap : (words : List (List ℕ))
+    → ((space at old_len new_len : ℕ) (rest : List (List ℕ)) → IsSpace space → IsNumber at → IsNumber old_len → IsNumber new_len → words ≢ number space ∷ address at ∷ number old_len ∷ number new_len ∷ rest)
+    → (c : Call) (rest : List (List ℕ)) → IsCall c → codes "remap" ∷ words ≢ call_words c ++ rest
+no_remap words none (call.Remap space at old_len new_len) rest h are = none space at old_len new_len rest h.0 h.1 h.2 h.3 (cc)
+no_remap words none _ rest h are = other_word (codes "remap") _ _ _ refl are
+
 -- a call has words
 pub no_words : (c : Call) (rest : List (List ℕ)) → [] ≢ call_words c ++ rest
 no_words (call.Map space at len perm what) rest are = cc
@@ -106,6 +118,8 @@ no_words (call.Exit space) rest are = cc
 no_words (call.SwapOut space at len) rest are = cc
 no_words (call.SwapIn space at len) rest are = cc
 no_words (call.Txn space at len ops) rest are = cc
+no_words (call.DontNeed space at len) rest are = cc
+no_words (call.Remap space at old_len new_len) rest are = cc
 
 -- words that begin with no name are no call's
 pub no_name : (word : List ℕ) (words : List (List ℕ)) → ((n : CallName) → word ≢ name_word n) → (c : Call) (rest : List (List ℕ)) → IsCall c → word ∷ words ≢ call_words c ++ rest
@@ -121,3 +135,5 @@ no_name word words none (call.Exit space) rest h are = none name.Exit (cc)
 no_name word words none (call.SwapOut space at len) rest h are = none name.SwapOut (cc)
 no_name word words none (call.SwapIn space at len) rest h are = none name.SwapIn (cc)
 no_name word words none (call.Txn space at len ops) rest h are = none name.Txn (cc)
+no_name word words none (call.DontNeed space at len) rest h are = none name.DontNeed (cc)
+no_name word words none (call.Remap space at old_len new_len) rest h are = none name.Remap (cc)

@@ -40,6 +40,8 @@ call_kept (call.Exit space) = refl
 call_kept (call.SwapOut space at len) = refl
 call_kept (call.SwapIn space at len) = refl
 call_kept (call.Txn space at len ops) = refl
+call_kept (call.DontNeed space at len) = refl
+call_kept (call.Remap space at old_len new_len) = refl
 
 calls_kept : (calls : List Call) → All IsKept (map call_line calls)
 calls_kept [] = All-nil IsKept

@@ -45,6 +45,8 @@ thread_is_no_name name.Spawn same = other_word (codes "thread") (codes "spawn") 
 thread_is_no_name name.Fork same = other_word (codes "thread") (codes "fork") [] [] refl (ap (λ w. w ∷ []) same)
 thread_is_no_name name.Exit same = other_word (codes "thread") (codes "exit") [] [] refl (ap (λ w. w ∷ []) same)
 thread_is_no_name name.SwapOut same = other_word (codes "thread") (codes "out") [] [] refl (ap (λ w. w ∷ []) same)
+thread_is_no_name name.DontNeed same = other_word (codes "thread") (codes "dontneed") [] [] refl (ap (λ w. w ∷ []) same)
+thread_is_no_name name.Remap same = other_word (codes "thread") (codes "remap") [] [] refl (ap (λ w. w ∷ []) same)
 thread_is_no_name name.Txn same = other_word (codes "thread") (codes "txn") [] [] refl (ap (λ w. w ∷ []) same)
 thread_is_no_name name.SwapIn same = other_word (codes "thread") (codes "in") [] [] refl (ap (λ w. w ∷ []) same)
 

@@ -128,6 +128,24 @@ one_in space at len (call.SwapIn space' at' len') x y ha hb same =
     record { calls = λ i. call.SwapIn (spaces i) (places i) (lengths i); rest = cc }
 one_in space at len _ x y ha hb same = absurd (other_word (codes "in") _ _ _ refl same)
 
+one_dontneed : (space at len : ℕ) (b : Call) (x y : List (List ℕ)) → IsCall (call.DontNeed space at len) → IsCall b → call_words (call.DontNeed space at len) ++ x ≡ call_words b ++ y → SameCall (call.DontNeed space at len) b x y
+one_dontneed space at len (call.DontNeed space' at' len') x y ha hb same =
+    let spaces : space ≡ space' = same_space space space' ha.0 hb.0 (cc) in
+    let places : at ≡ at' = address_injective at at' ha.1 hb.1 (cc) in
+    let lengths : len ≡ len' = number_injective len len' ha.2 hb.2 (cc) in
+    record { calls = λ i. call.DontNeed (spaces i) (places i) (lengths i); rest = cc }
+one_dontneed space at len _ x y ha hb same = absurd (other_word (codes "dontneed") _ _ _ refl same)
+
+one_remap : (space at old_len new_len : ℕ) (b : Call) (x y : List (List ℕ)) → IsCall (call.Remap space at old_len new_len) → IsCall b → call_words (call.Remap space at old_len new_len) ++ x ≡ call_words b ++ y
+    → SameCall (call.Remap space at old_len new_len) b x y
+one_remap space at old_len new_len (call.Remap space' at' old_len' new_len') x y ha hb same =
+    let spaces : space ≡ space' = same_space space space' ha.0 hb.0 (cc) in
+    let places : at ≡ at' = address_injective at at' ha.1 hb.1 (cc) in
+    let old_lengths : old_len ≡ old_len' = number_injective old_len old_len' ha.2 hb.2 (cc) in
+    let new_lengths : new_len ≡ new_len' = number_injective new_len new_len' ha.3 hb.3 (cc) in
+    record { calls = λ i. call.Remap (spaces i) (places i) (old_lengths i) (new_lengths i); rest = cc }
+one_remap space at old_len new_len _ x y ha hb same = absurd (other_word (codes "remap") _ _ _ refl same)
+
 one_txn : (space at len : ℕ) (ops : List TxnOp) (b : Call) (x y : List (List ℕ)) → IsCall (call.Txn space at len ops) → IsCall b → IsNoMore x → EndsCall b y → call_words (call.Txn space at len ops) ++ x ≡ call_words b ++ y → SameCall (call.Txn space at len ops) b x y
 one_txn space at len ops (call.Txn space' at' len' ops') x y ha hb ends_a ends_b same =
     let spaces : space ≡ space' = same_space space space' ha.0 hb.0 (cc) in
@@ -151,6 +169,8 @@ one_call (call.Exit space) b x y ha hb ends_a ends_b same = one_exit space b x y
 one_call (call.SwapOut space at len) b x y ha hb ends_a ends_b same = one_out space at len b x y ha hb same
 one_call (call.SwapIn space at len) b x y ha hb ends_a ends_b same = one_in space at len b x y ha hb same
 one_call (call.Txn space at len ops) b x y ha hb ends_a ends_b same = one_txn space at len ops b x y ha hb ends_a ends_b same
+one_call (call.DontNeed space at len) b x y ha hb ends_a ends_b same = one_dontneed space at len b x y ha hb same
+one_call (call.Remap space at old_len new_len) b x y ha hb ends_a ends_b same = one_remap space at old_len new_len b x y ha hb same
 
 -- a byte below the letters does not occur in a word of letters
 pub HasNo_letters : (byte : ℕ) (bytes : List ℕ) → byte < 45 → list_all (λ b. ltb 96 b) bytes ≡ true → HasNo byte bytes
@@ -251,6 +271,9 @@ module _ (byte : ℕ) (low : byte < 45) where
   words_have_no (call.Exit space) h = one _ _ (HasNo_letters byte (codes "exit") low refl) (one _ _ (space_word_has_no byte space low h) none)
   words_have_no (call.SwapOut space at len) h = range_words_have_no (codes "out") space at len [] (HasNo_letters byte (codes "out") low refl) h.0 h.1 h.2 none
   words_have_no (call.SwapIn space at len) h = range_words_have_no (codes "in") space at len [] (HasNo_letters byte (codes "in") low refl) h.0 h.1 h.2 none
+  words_have_no (call.DontNeed space at len) h = range_words_have_no (codes "dontneed") space at len [] (HasNo_letters byte (codes "dontneed") low refl) h.0 h.1 h.2 none
+  words_have_no (call.Remap space at old_len new_len) h =
+      range_words_have_no (codes "remap") space at old_len (number new_len ∷ []) (HasNo_letters byte (codes "remap") low refl) h.0 h.1 h.2 (one _ _ (length_word_has_no byte new_len low h.3) none)
   words_have_no (call.Txn space at len ops) h = range_words_have_no (codes "txn") space at len (ops_words ops) (HasNo_letters byte (codes "txn") low refl) h.0 h.1 h.2 (ops_words_have_no ops h.3.1)
 
 pub call_words_have_no : (byte : ℕ) (c : Call) → byte < 45 → IsCall c → All (HasNo byte) (call_words c)

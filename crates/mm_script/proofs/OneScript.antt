@@ -51,8 +51,8 @@ same_threads (t ∷ ts) (u ∷ us) ht hu same =
     let rest : ts ≡ us = same_threads ts us (All-tail (All IsCall) t ts ht) (All-tail (All IsCall) u us hu) head.1 in
     ap (λ c. c ∷ ts) head.0 ∙ ap (λ cs. u ∷ cs) rest
 
-limits_from_parts : (a b : Limits) → a.frames ≡ b.frames → a.tables ≡ b.tables → a.swap ≡ b.swap → a ≡ b
-limits_from_parts a b frames tables swap = λ i. record { frames = frames i; tables = tables i; swap = swap i }
+limits_from_parts : (a b : Limits) → a.levels ≡ b.levels → a.frames ≡ b.frames → a.tables ≡ b.tables → a.swap ≡ b.swap → a ≡ b
+limits_from_parts a b levels frames tables swap = λ i. record { levels = levels i; frames = frames i; tables = tables i; swap = swap i }
 
 script_from_parts : (a b : Script) → a.limits ≡ b.limits → a.shelf ≡ b.shelf → a.threads ≡ b.threads → a ≡ b
 script_from_parts a b limits files threads = λ i. record { limits = limits i; shelf = files i; threads = threads i }
@@ -63,10 +63,10 @@ same_limit m n high hm hn small same = number_injective m n (omega arith) (omega
 pub script_lines_injective : (a b : Script) → IsScript a → IsScript b → script_lines a ≡ script_lines b → a ≡ b
 script_lines_injective a b ha hb same =
     let files = same_files a.shelf b.shelf a.threads b.threads ha.files.each hb.files.each (cc same) in
-    let limits : a.limits ≡ b.limits = limits_from_parts a.limits b.limits
-    (same_limit a.limits.frames b.limits.frames 4096 ha.limits.frames.1 hb.limits.frames.1 (omega arith) (cc same))
-    (same_limit a.limits.tables b.limits.tables 1023 ha.limits.tables.1 hb.limits.tables.1 (omega arith) (cc same))
-    (same_limit a.limits.swap b.limits.swap 4096 ha.limits.swap.1 hb.limits.swap.1 (omega arith) (cc same)) in
+    let limits : a.limits ≡ b.limits = limits_from_parts a.limits b.limits (ha.limits.levels ∙ sym hb.limits.levels)
+    (same_limit a.limits.frames b.limits.frames 4096 ha.limits.numbers.frames.1 hb.limits.numbers.frames.1 (omega arith) (cc same))
+    (same_limit a.limits.tables b.limits.tables 1023 ha.limits.numbers.tables.1 hb.limits.numbers.tables.1 (omega arith) (cc same))
+    (same_limit a.limits.swap b.limits.swap 4096 ha.limits.numbers.swap.1 hb.limits.numbers.swap.1 (omega arith) (cc same)) in
     script_from_parts a b limits files.0 (same_threads a.threads b.threads ha.threads.calls hb.threads.calls files.1)
 
 pub one_script : (bytes : List ℕ) (a b : Script) → IsScriptText bytes a → IsScriptText bytes b → b ≡ a

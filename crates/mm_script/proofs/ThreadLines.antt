@@ -7,7 +7,7 @@ use Rattle.corten_base.specs.declared.calls.Call.{Call}
 use Rattle.corten_base.specs.declared.numbers.Limits.{Limits}
 use Rattle.text_words.specs.Layout.{TextRest}
 use Rattle.mm_script.specs.CallLine.{call_line, IsCall}
-use Rattle.mm_script.specs.ScriptText.{limit_lines, file_line, file_lines, header_lines, thread_lines, most_threads, AreLimits, IsFile, AreFiles}
+use Rattle.mm_script.specs.ScriptText.{limit_lines, file_line, file_lines, header_lines, thread_lines, most_threads, AreScriptLimits, IsFile, AreFiles}
 use Rattle.mm_script.specs.Reading.{NextLine, NoNext, NoLine, Passes, FaultFrom, lines_behind, Begins}
 use Rattle.mm_script.proofs.Beginnings.{open_lines, Begins-header, Begins-calls, no_header, no_line, wants_thread}
 use Rattle.mm_script.proofs.Places.{Passes-none, Passes-next, Passes-append, Passes-end, FaultFrom-behind, FaultFrom-next, fault_at_line, fault_unfinished}
@@ -28,7 +28,7 @@ all_files old mid new files line passed next is =
     subst (λ l. Passes old new (file_lines files ++ l ∷ [])) is (Passes-append old mid new (file_lines files) (line ∷ []) passed (Passes-next mid new line next))
 
 -- the line behind the files is wrong, or there is none
-pub header_fault : (old mid : TextRest) (limits : Limits) (files : List (List ℕ)) (n : ℕ) (P : List ℕ → Type 0) → AreLimits limits → AreFiles files → Passes old mid (file_lines files) → NoLine mid n P
+pub header_fault : (old mid : TextRest) (limits : Limits) (files : List (List ℕ)) (n : ℕ) (P : List ℕ → Type 0) → AreScriptLimits limits → AreFiles files → Passes old mid (file_lines files) → NoLine mid n P
     → ((line : List ℕ) → P line → (line ≢ codes "thread") × (length files < 16 → (bytes : List ℕ) → IsFile bytes → line ≢ file_line bytes)) → FaultFrom old (limit_lines limits) n
 header_fault old mid limits files n P hl hf passed none says =
     FaultFrom-behind old mid (limit_lines limits) (file_lines files) n passed
@@ -96,7 +96,7 @@ all_lines old mid new threads calls passed none =
     subst (Passes old new) (append-nil (rest_lines threads calls)) (Passes-append old mid new (rest_lines threads calls) [] passed (Passes-end mid new none))
 
 -- a fault behind the lines so far
-module _ (old mid new : TextRest) (limits : Limits) (files : List (List ℕ)) (threads : List (List Call)) (calls : List Call) (hl : AreLimits limits) (hf : AreFiles files) (ht : All (All IsCall) threads) (hc : All IsCall calls) (few : length threads < most_threads) (passed : Passes old mid (rest_lines threads calls)) where
+module _ (old mid new : TextRest) (limits : Limits) (files : List (List ℕ)) (threads : List (List Call)) (calls : List Call) (hl : AreScriptLimits limits) (hf : AreFiles files) (ht : All (All IsCall) threads) (hc : All IsCall calls) (few : length threads < most_threads) (passed : Passes old mid (rest_lines threads calls)) where
   behind : (n : ℕ) → FaultFrom mid (header_lines limits files ++ open_lines threads calls) n → FaultFrom old (header_lines limits files ++ codes "thread" ∷ []) n
   behind n fault =
       FaultFrom-behind old mid (header_lines limits files ++ codes "thread" ∷ []) (rest_lines threads calls) n passed

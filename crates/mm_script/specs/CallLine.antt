@@ -62,6 +62,8 @@ call_words (call.Exit space) = codes "exit" ∷ number space ∷ []
 call_words (call.SwapOut space at len) = codes "out" ∷ number space ∷ address at ∷ number len ∷ []
 call_words (call.SwapIn space at len) = codes "in" ∷ number space ∷ address at ∷ number len ∷ []
 call_words (call.Txn space at len ops) = codes "txn" ∷ number space ∷ address at ∷ number len ∷ ops_words ops
+call_words (call.DontNeed space at len) = codes "dontneed" ∷ number space ∷ address at ∷ number len ∷ []
+call_words (call.Remap space at old_len new_len) = codes "remap" ∷ number space ∷ address at ∷ number old_len ∷ number new_len ∷ []
 
 -- each word behind a space
 abbrev pub spaced : List (List ℕ) → List ℕ
@@ -115,6 +117,8 @@ IsCall (call.Exit space) = IsSpace space
 IsCall (call.SwapOut space at len) = IsSpace space × IsNumber at × IsNumber len
 IsCall (call.SwapIn space at len) = IsSpace space × IsNumber at × IsNumber len
 IsCall (call.Txn space at len ops) = IsSpace space × IsNumber at × IsNumber len × AreOps ops
+IsCall (call.DontNeed space at len) = IsSpace space × IsNumber at × IsNumber len
+IsCall (call.Remap space at old_len new_len) = IsSpace space × IsNumber at × IsNumber old_len × IsNumber new_len
 
 -- words that do not go on with a further operation
 abbrev pub IsNoMore : List (List ℕ) → Type 0

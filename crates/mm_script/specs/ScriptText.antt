@@ -3,6 +3,7 @@
 --     limit_lines, file_lines      the lines of limits and of files
 --     header_lines      both, with which a script begins
 --     script_lines      the lines of a script
+--     AreLimits, AreScriptLimits      the bounds of limits, and of a script's
 --     IsScript      the bounds of a script
 --     IsScriptText      bytes that are the text of a script
 --     AreScriptLines      the grammar: lines that are those of some script, and lines that are skipped
@@ -57,10 +58,16 @@ thread_lines calls = codes "thread" ∷ map call_line calls
 abbrev pub script_lines : Script → List (List ℕ)
 script_lines script = header_lines script.limits script.shelf ++ flat_map thread_lines script.threads
 
+-- how many numbers there are of each kind
 pub record AreLimits (limits : Limits) : Type 0 where
   pub frames : IsWithin 1 4096 limits.frames
   pub tables : IsWithin 1 1023 limits.tables
   pub swap : IsWithin 0 4096 limits.swap
+
+-- a script's page tables have four levels
+pub record AreScriptLimits (limits : Limits) : Type 0 where
+  pub numbers : AreLimits limits
+  pub levels : limits.levels ≡ 4
 
 pub record IsFile (bytes : List ℕ) : Type 0 where
   pub size : length bytes ≤ 65536
@@ -78,7 +85,7 @@ pub record AreThreads (threads : List (List Call)) : Type 0 where
   pub calls : All (All IsCall) threads
 
 pub record IsScript (script : Script) : Type 0 where
-  pub limits : AreLimits script.limits
+  pub limits : AreScriptLimits script.limits
   pub files : AreFiles script.shelf
   pub threads : AreThreads script.threads
 

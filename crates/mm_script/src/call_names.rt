@@ -18,6 +18,8 @@ pub(crate) enum CallName {
     SwapOut,
     SwapIn,
     Txn,
+    DontNeed,
+    Remap,
 }
 
 /// Which call's first word this is.
@@ -49,6 +51,10 @@ pub(crate) fn call_name(word: &[u8]) -> Option<CallName>
         Some(CallName::SwapIn)
     } else if word == b"txn".as_slice() {
         Some(CallName::Txn)
+    } else if word == b"dontneed".as_slice() {
+        Some(CallName::DontNeed)
+    } else if word == b"remap".as_slice() {
+        Some(CallName::Remap)
     } else {
         None
     }

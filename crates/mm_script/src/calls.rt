@@ -44,6 +44,8 @@ pub fn next_call(alloc: Global, words: &mut Words<'_>) -> Result<Option<Call>, A
         CallName::SwapOut => Ok(next_out(words)),
         CallName::SwapIn => Ok(next_in(words)),
         CallName::Txn => next_txn(alloc, words),
+        CallName::DontNeed => Ok(next_dontneed(words)),
+        CallName::Remap => Ok(next_remap(words)),
     }
 }
 
@@ -209,6 +211,34 @@ fn next_txn(alloc: Global, words: &mut Words<'_>) -> Result<Option<Call>, AllocE
         len,
         ops,
     }))
+}
+
+/// Takes the words of a `dontneed` behind that word.
+fn next_dontneed(words: &mut Words<'_>) -> Option<Call>
+    ensures found { IfSome result (λ call. IsCall call × (codes "dontneed" ∷ words.old ≡ call_words call ++ words.new)) }
+    ensures none { IfNone result ((space at len : ℕ) (rest : List (List ℕ)) →
+        IsSpace space → IsNumber at → IsNumber len → words.old ≢ number space ∷ address at ∷ number len ∷ rest) }
+{
+    Some(Call::DontNeed {
+        space: next_space(words)?,
+        at: next_address(words)?,
+        len: next_number(words)?,
+    })
+}
+
+/// Takes the words of a `remap` behind that word.
+fn next_remap(words: &mut Words<'_>) -> Option<Call>
+    ensures found { IfSome result (λ call. IsCall call × (codes "remap" ∷ words.old ≡ call_words call ++ words.new)) }
+    ensures none { IfNone result ((space at old_len new_len : ℕ) (rest : List (List ℕ)) →
+        IsSpace space → IsNumber at → IsNumber old_len → IsNumber new_len →
+        words.old ≢ number space ∷ address at ∷ number old_len ∷ number new_len ∷ rest) }
+{
+    Some(Call::Remap {
+        space: next_space(words)?,
+        at: next_address(words)?,
+        old_len: next_number(words)?,
+        new_len: next_number(words)?,
+    })
 }
 
 /// The call whose line this is.

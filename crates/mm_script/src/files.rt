@@ -2,7 +2,7 @@
 ghost use Rattle.std.specs.Prelude.{◌≡◌, ◌≢◌, ℕ, ◌<◌, ◌≤◌, List, [], ◌∷◌, ◌++◌, length, codes, IfOk, IfErr, IfSome, IfNone, OnOk, OnErr, IsTrue, ◌↔◌};
 ghost use Rattle.corten_base.specs.declared.numbers.Limits.{Limits};
 ghost use Rattle.mm_script.specs.CallLine.{IsWithin};
-ghost use Rattle.mm_script.specs.ScriptText.{IsFile, AreFiles, AreLimits, file_word, file_line, file_lines, limit_lines, IfBad};
+ghost use Rattle.mm_script.specs.ScriptText.{IsFile, AreFiles, AreScriptLimits, file_word, file_line, file_lines, limit_lines, IfBad};
 ghost use Rattle.mm_script.specs.Reading.{Passes, FaultFrom};
 ghost use Rattle.mm_script.specs.declared.fault.ScriptFault.TheVariants.{NoMemory};
 
@@ -76,7 +76,7 @@ pub fn add_file(shelf: &mut Shelf, bytes: Vec<u8>) -> Result<(), ScriptFault>
 /// Takes the lines of the files, and the line of the first thread behind them.
 pub(crate) fn read_files(alloc: Global, lines: &mut Lines<'_>) -> Result<Shelf, ScriptFault>
     ensures ok { IfOk result (λ files. AreFiles files × Passes lines.old lines.new (file_lines files ++ codes "thread" ∷ [])) }
-    ensures bad { IfErr result (λ fault. IfBad fault (λ n. (limits : Limits) → AreLimits limits →
+    ensures bad { IfErr result (λ fault. IfBad fault (λ n. (limits : Limits) → AreScriptLimits limits →
         FaultFrom lines.old (limit_lines limits) n)) }
 {
     let mut shelf = Shelf::new(alloc);

@@ -2,7 +2,7 @@
 ghost use Rattle.std.specs.Prelude.{◌≡◌, ◌≢◌, ℕ, List, [], IfOk, IfErr, IfSome, IfNone};
 ghost use Rattle.text_words.specs.Layout.{words_of};
 ghost use Rattle.mm_script.specs.CallLine.{IsWithin};
-ghost use Rattle.mm_script.specs.ScriptText.{AreLimits, limit_words, limit_lines, IfBad};
+ghost use Rattle.mm_script.specs.ScriptText.{AreScriptLimits, limit_words, limit_lines, IfBad};
 ghost use Rattle.mm_script.specs.Reading.{NextWords, NoLine, Passes, FaultFrom};
 
 use crate::call_words::{next_name, next_within};
@@ -11,12 +11,13 @@ use crate::kept::next_kept;
 use corten_base::Limits;
 use text_words::{Lines, Words};
 
-/// Takes the lines of the limits.
+/// Takes the lines of the limits. A script's page tables have four levels.
 pub(crate) fn read_limits(lines: &mut Lines<'_>) -> Result<Limits, ScriptFault>
-    ensures ok { IfOk result (λ limits. AreLimits limits × Passes lines.old lines.new (limit_lines limits)) }
+    ensures ok { IfOk result (λ limits. AreScriptLimits limits × Passes lines.old lines.new (limit_lines limits)) }
     ensures bad { IfErr result (λ fault. IfBad fault (FaultFrom lines.old [])) }
 {
     Ok(Limits {
+        levels: 4,
         frames: next_limit(lines, b"frames", 1, 4096)?,
         tables: next_limit(lines, b"tables", 1, 1023)?,
         swap: next_limit(lines, b"swap", 0, 4096)?,

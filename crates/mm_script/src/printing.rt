@@ -141,6 +141,21 @@ fn push_protect(
     push_more(out, &[Word::Permission(perm)])
 }
 
+/// Appends the line of a `remap`, and without memory some bytes of it.
+fn push_remap(
+    out: &mut Vec<u8>,
+    space: SpaceId,
+    at: u64,
+    old_len: u64,
+    new_len: u64,
+) -> Result<(), AllocError>
+    ensures ok { OnOk result (out.new.items ≡ out.old.items ++ call_line (Call.Remap space at old_len new_len)) }
+    ensures err { OnErr result (take (length out.old.items) out.new.items ≡ out.old.items) }
+{
+    push_range(out, b"remap", space, at, old_len)?;
+    push_more(out, &[Word::Number(new_len)])
+}
+
 /// Appends the line of a `txn`, and without memory some bytes of it.
 fn push_txn(
     out: &mut Vec<u8>,
@@ -195,6 +210,13 @@ fn push_parts(out: &mut Vec<u8>, call: &Call) -> Result<(), AllocError>
             len,
             ops,
         } => push_txn(out, *space, *at, *len, ops.ops()),
+        Call::DontNeed { space, at, len } => push_range(out, b"dontneed", *space, *at, *len),
+        Call::Remap {
+            space,
+            at,
+            old_len,
+            new_len,
+        } => push_remap(out, *space, *at, *old_len, *new_len),
     }
 }
 

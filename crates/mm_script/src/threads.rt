@@ -1,7 +1,7 @@
 //! The lines of a script's threads.
 ghost use Rattle.std.specs.Prelude.{◌≡◌, [], ◌∷◌, ◌++◌, List, ℕ, codes, IfOk, IfErr, IsTrue, ◌↔◌};
 ghost use Rattle.corten_base.specs.declared.numbers.Limits.{Limits};
-ghost use Rattle.mm_script.specs.ScriptText.{AreLimits, AreFiles, AreThreads, header_lines, IfBad};
+ghost use Rattle.mm_script.specs.ScriptText.{AreScriptLimits, AreFiles, AreThreads, header_lines, IfBad};
 ghost use Rattle.mm_script.specs.Reading.{Passes, FaultFrom, lines_behind};
 
 use crate::calls::read_call;
@@ -27,7 +27,7 @@ pub(crate) fn read_threads(alloc: Global, lines: &mut Lines<'_>) -> Result<Threa
     ensures ok { IfOk result (λ threads.
         AreThreads threads × Passes lines.old lines.new (lines_behind threads) × (lines.new.bytes ≡ [])) }
     ensures bad { IfErr result (λ fault. IfBad fault (λ n. (limits : Limits) (files : List (List ℕ)) →
-        AreLimits limits → AreFiles files → FaultFrom lines.old (header_lines limits files ++ codes "thread" ∷ []) n)) }
+        AreScriptLimits limits → AreFiles files → FaultFrom lines.old (header_lines limits files ++ codes "thread" ∷ []) n)) }
 {
     let mut threads = Vec::new(alloc);
     let mut calls = Vec::new(alloc);

@@ -1,32 +1,36 @@
 -- Making and removing spaces keeps the facts of a state.
-use Rattle.std.proofs.Common.{◌≡◌, ℕ, ◌+◌, ◌<◌, ◌≤◌, Bool, true, false, cond, not, List, [], ◌∷◌, refl, sym, ap, subst, ◌∙◌, arith, inl, inr}
+use Rattle.std.proofs.Common.{◌≡◌, ℕ, ◌+◌, ◌-◌, ◌^◌, ◌<◌, ◌≤◌, Bool, true, false, cond, not, ◌&&◌, List, [], ◌∷◌, refl, sym, ap, subst, ◌∙◌, arith, inl, inr}
 use mathlib.Core.Bool.{true≢false}
-use Rattle.std.specs.Prelude.{Option, Some, None, is_some, nat_eq}
+use Rattle.std.specs.Prelude.{Option, Some, None, is_some, nat_eq, nat_lt, map}
 use Rattle.std.specs.Option.{unwrap_or, option_map_or}
-use Rattle.std.specs.List.{list_any, flat_map, AllByRecursion}
+use Rattle.std.specs.List.{list_any, flat_map}
 use Rattle.std.specs.Ordering.{nat_cmp, is_eq, eq_by_cmp}
-use Rattle.std.specs.Cmp.{tied_itself, nat_cmp_total, unsigned_tied, nat_eq_equiv}
+use Rattle.std.specs.Cmp.{tied_itself, nat_cmp_total, unsigned_tied, nat_eq_equiv, Equal-is}
 use Rattle.std.specs.FinMap as fin
-use Rattle.std.specs.FinMap.{get-empty, get-remove, contains_key-keys}
+use Rattle.std.specs.FinMap.{get-empty, get-remove}
 use Rattle.std.specs.FinSet as set
-use Rattle.std.proofs.lemmas.Bool.{eqb-true, or_left, or_right, or_cases}
+use Rattle.std.proofs.lemmas.Bool.{and_parts, and_from, eqb-true, or_left, or_right, or_cases, not-true, lt-ltb, cases_lt}
 use Rattle.corten_base.specs.declared.calls.Call.TheVariants as call
 use Rattle.table_place.specs.declared.Place.{Place}
-use Rattle.table_place.specs.Place.{place_cmp, root, place_of, parent, is_place, is_user_page, above}
-use Rattle.table_place.proofs.Tables.{to_range}
+use Rattle.table_place.specs.Range.{within}
+use Rattle.table_place.specs.Place.{place_cmp, root, parent, is_place, above, is_above, span_first, span_count}
+use Rattle.table_place.proofs.Tables.{above_parent}
 use Rattle.page_map.specs.declared.cell.Cell.{Cell}
 use Rattle.page_map.specs.Cell.{frame_of, slot_of}
+use Rattle.page_map.specs.Alike.{is_unlike}
 use Rattle.page_map.specs.Tables.{Tables, changed_tables, need}
 use Rattle.page_map.specs.State.{State, AddressSpace, IsConsistent, SharersAgree, levels, linked, space_at, cell_at, is_present}
-use Rattle.page_map.specs.Spaces.{least_absent}
+use Rattle.page_map.specs.Spaces.{least_absent, used_tables, copied_tables}
 use Rattle.page_map.specs.Effect.{is_given_up, state_after}
-use Rattle.page_map.proofs.Places.{place_total}
+use Rattle.page_map.proofs.Places.{place_total, place_exact}
 use Rattle.page_map.proofs.Steps.{Passed, not_none}
 use Rattle.page_map.proofs.Unmapped.{held_of}
 use Rattle.page_map.proofs.Least.{least_passes}
-use Rattle.page_map.proofs.Above.{any_flat}
-use Rattle.page_map.proofs.Cells.{changed, each_cell, present_changed}
-use Rattle.page_map.proofs.Growth.{is_wanted, AreWanted, none_wanted, both_wanted, above_wanted, root_wanted, key_wanted, stays, comes, whence, grown_len, fewer_left}
+use Rattle.page_map.proofs.Alike.{none_alike}
+use Rattle.page_map.proofs.Cells.{changed, each_cell, spaces_changed, present_changed}
+use Rattle.page_map.proofs.Wanted.{is_wanted, AreWanted, both_wanted, root_wanted}
+use Rattle.page_map.proofs.Growth.{stays, comes, whence, grown_len, fewer_left, parent_root}
+use Rattle.page_map.proofs.Unlike.{wanted_filter, above_any, some_passes, lower_above, keyed}
 use Rattle.page_map.proofs.Keeps.{room}
 
 -- A state each of whose cells another has at the same page of some space has the facts of that one, where its tables do.
@@ -38,7 +42,7 @@ module _ (st : State) (spaces : fin.FinMap nat_cmp AddressSpace) (tables : Table
     pub cells : (s p : ℕ) (c : Cell) → cell_at other s p ≡ Some c → cell_at st (source s) p ≡ Some c
     pub known : (s : ℕ) → is_present other s ≡ true → s < 64
     pub roots : (s : ℕ) → is_present other s ≡ true → set.contains tables (root (levels st) s) ≡ true
-    pub above : (s p k : ℕ) (c : Cell) → cell_at other s p ≡ Some c → 1 ≤ k → k ≤ levels st → set.contains tables (place_of s k p) ≡ true
+    pub unlike : (p : Place) → 1 ≤ p.level → p.level < levels st → is_unlike (space_at other p.space) p ≡ true → set.contains tables p ≡ true
     pub parents : (p : Place) → set.contains tables p ≡ true → p.level < levels st → set.contains tables (parent p) ≡ true
     pub absent : (p : Place) → set.contains tables p ≡ true → is_present other p.space ≡ true
     pub places : (p : Place) → set.contains tables p ≡ true → is_place (levels st) p ≡ true
@@ -49,11 +53,14 @@ module _ (st : State) (spaces : fin.FinMap nat_cmp AddressSpace) (tables : Table
       let agree : (number_of : Cell → Option ℕ) → SharersAgree number_of st → SharersAgree number_of other =
       λ number_of shared s t p q c d n e f is also. (let h = shared (source s) (source t) p q c d n (copy.cells s p c e) (copy.cells t q d f) is also in (h.0, λ same. h.1 (ap source same))) in
       record {
+        some_levels = ok.some_levels;
+        few_levels = ok.few_levels;
         spaces = copy.known;
         pages = λ s p c e. ok.pages (source s) p c (copy.cells s p c e);
         bytes = λ s p c e. ok.bytes (source s) p c (copy.cells s p c e);
+        indexes = λ s p c e. ok.indexes (source s) p c (copy.cells s p c e);
         roots = copy.roots;
-        above = copy.above;
+        unlike = copy.unlike;
         parents = copy.parents;
         absent = copy.absent;
         places = copy.places;
@@ -80,7 +87,7 @@ module _ (st : State) (new source : ℕ) (cells : AddressSpace) (is_given_up : P
     pub want : AreWanted (levels st) new wanted
     pub rooted : is_wanted wanted (root (levels st) new) ≡ true
     pub came : (p : ℕ) (c : Cell) → fin.get cells p ≡ Some c → cell_at st source p ≡ Some c
-    pub above : (p k : ℕ) (c : Cell) → fin.get cells p ≡ Some c → 1 ≤ k → k ≤ levels st → is_wanted wanted (place_of new k p) ≡ true
+    pub own : (p : Place) → p.space ≡ new → 1 ≤ p.level → p.level < levels st → is_unlike cells p ≡ true → is_wanted wanted p ≡ true
     pub room : linked st + need wanted st.tables ≤ st.limits.tables
 
   new_present : is_present born new ≡ true
@@ -100,6 +107,25 @@ module _ (st : State) (new source : ℕ) (cells : AddressSpace) (is_given_up : P
       go true e h = subst P (sym (eqb-true s new e)) here
       go false e h = old s h
 
+  -- each table whose span is not alike is there
+  unlike_born : IsConsistent st → IsBorn → (p : Place) → 1 ≤ p.level → p.level < levels st → is_unlike (cond (nat_eq p.space new) cells (space_at st p.space)) p ≡ true →
+      set.contains (changed_tables is_given_up wanted st.tables) p ≡ true
+  unlike_born ok b p low high = go (nat_eq p.space new) refl
+    where
+      go : (t : Bool) → nat_eq p.space new ≡ t → is_unlike (cond t cells (space_at st p.space)) p ≡ true → set.contains (changed_tables is_given_up wanted st.tables) p ≡ true
+      go true e h = comes is_given_up wanted st.tables p (b.own p (eqb-true p.space new e) low high h)
+      go false e h = stays is_given_up wanted st.tables p (ok.unlike p low high h) (b.none p)
+
+  parent_wanted : IsBorn → (p : Place) → is_wanted wanted p ≡ true → p.level < levels st → is_wanted wanted (parent p) ≡ true
+  parent_wanted b p is below = elim (cases_lt (p.level + 1) (levels st)) [
+    | inl less ↦ b.want.parents p is less
+    | inr last ↦ subst (λ (q : Place). is_wanted wanted q ≡ true)
+        (sym (parent_root (levels st) p (b.want.places p is) (top p.level (levels st) below last) ∙ ap (root (levels st)) (b.want.spaces p is))) b.rooted
+  ]
+    where
+      top : (k n : ℕ) → k < n → n ≤ k + 1 → k + 1 ≡ n
+      top k n a b = omega arith
+
   pub born_keeps : IsConsistent st → IsBorn → IsConsistent born
   born_keeps ok b =
       let tables = changed_tables is_given_up wanted st.tables in
@@ -110,12 +136,10 @@ module _ (st : State) (new source : ℕ) (cells : AddressSpace) (is_given_up : P
             (λ s p c apart e. ap (λ t. cell_at st (cond t source s) p) apart ∙ e);
         known = each_present (λ s. s < 64) b.known ok.spaces;
         roots = each_present (λ s. set.contains tables (root (levels st) s) ≡ true) (comes is_given_up wanted st.tables (root (levels st) new) b.rooted) (λ s h. old (root (levels st) s) (ok.roots s h));
-        above = λ s p k c e. each_cell st new cells tables (λ s p c. (k : ℕ) → 1 ≤ k → k ≤ levels st → set.contains tables (place_of s k p) ≡ true)
-            (λ p c e k low high. comes is_given_up wanted st.tables (place_of new k p) (b.above p k c e low high))
-            (λ s p c _ e k low high. old (place_of s k p) (ok.above s p k c e low high)) s p c e k;
+        unlike = λ p low high h. unlike_born ok b p low high (sym (ap (λ m. is_unlike m p) (spaces_changed st new cells tables p.space)) ∙ h);
         parents = λ p h below. elim (whence is_given_up wanted st.tables p h) [
           | inl was ↦ old (parent p) (ok.parents p was.0 below)
-          | inr is ↦ comes is_given_up wanted st.tables (parent p) (b.want.parents p is below)
+          | inr is ↦ comes is_given_up wanted st.tables (parent p) (parent_wanted b p is below)
         ];
         absent = λ p h. elim (whence is_given_up wanted st.tables p h) [
           | inl was ↦ old_present p.space (ok.absent p was.0)
@@ -125,47 +149,79 @@ module _ (st : State) (new source : ℕ) (cells : AddressSpace) (is_given_up : P
         few = omega (arith, grown_len is_given_up b.none wanted st.tables, b.room);
       })
 
--- the tables above all keys of a space
-module _ (levels space : ℕ) where
-  abbrev above_keys : List ℕ → List Place
-  above_keys ks = flat_map (λ page. above levels space page 1) ks
+-- the tables of one space, as tables of another
+module _ (new : ℕ) where
+  abbrev pub copied_to : Place → Place
+  copied_to p = record { space = new; level = p.level; prefix = p.prefix }
 
-  pub keys_wanted : (ks : List ℕ) → space < 64 → AllByRecursion (λ page. is_user_page levels page ≡ true) ks → AreWanted levels space (above_keys ks)
-  keys_wanted [] known user = none_wanted levels space
-  keys_wanted (k ∷ ks) known user = both_wanted levels space (above levels space k 1) (above_keys ks) (above_wanted levels space k 1 known (omega arith) user.0) (keys_wanted ks known user.1)
-
-  some_passes : (t u : ℕ → Bool) → ((x : ℕ) → t x ≡ true → u x ≡ true) → (ks : List ℕ) → list_any t ks ≡ true → list_any u ks ≡ true
-  some_passes t u gives [] h = h
-  some_passes t u gives (k ∷ ks) h = elim (or_cases (t k) (list_any t ks) h) [
-    | inl here ↦ or_left (u k) (list_any u ks) (gives k here)
-    | inr later ↦ or_right (u k) (list_any u ks) (some_passes t u gives ks later)
+  pub copy_from : (ps : List Place) (p : Place) → is_wanted (map copied_to ps) p ≡ true → (q : Place) × (is_wanted ps q ≡ true) × (p ≡ copied_to q)
+  copy_from [] p h = absurd (true≢false (sym h))
+  copy_from (k ∷ ps) p h = elim (or_cases (eq_by_cmp place_cmp p (copied_to k)) (is_wanted (map copied_to ps) p) h) [
+    | inl here ↦ (k, or_left _ (is_wanted ps k) (ap is_eq (tied_itself place_total k)), place_exact p (copied_to k) ((Equal-is (place_cmp p (copied_to k))).0 here))
+    | inr later ↦ (let at = copy_from ps p later in (at.0, or_right (eq_by_cmp place_cmp at.0 k) _ at.1, at.2))
   ]
 
-  pub key_above : (ks : List ℕ) (p k : ℕ) → list_any (eq_by_cmp nat_cmp p) ks ≡ true → 1 ≤ k → k ≤ levels → is_wanted (above_keys ks) (place_of space k p) ≡ true
-  key_above ks p k among low high =
-      any_flat (eq_by_cmp place_cmp (place_of space k p)) (λ page. above levels space page 1) ks
-      ∙ some_passes (eq_by_cmp nat_cmp p) (λ page. is_wanted (above levels space page 1) (place_of space k p))
-      (λ x tied. key_wanted levels space x 1 p k (to_range x 1 p (omega (arith, is x tied)) (omega (arith, is x tied))) low high) ks among
-    where
-      is : (x : ℕ) → eq_by_cmp nat_cmp p x ≡ true → p ≡ x
-      is x tied = eqb-true p x (sym (unsigned_tied p x) ∙ tied)
+  pub copy_to : (ps : List Place) (q : Place) → is_wanted ps q ≡ true → is_wanted (map copied_to ps) (copied_to q) ≡ true
+  copy_to [] q h = h
+  copy_to (k ∷ ps) q h = elim (or_cases (eq_by_cmp place_cmp q k) (is_wanted ps q) h) [
+    | inl here ↦ or_left _ (is_wanted (map copied_to ps) (copied_to q))
+        (ap (λ x. eq_by_cmp place_cmp (copied_to x) (copied_to k)) (place_exact q k ((Equal-is (place_cmp q k)).0 here)) ∙ ap is_eq (tied_itself place_total (copied_to k)))
+    | inr later ↦ or_right (eq_by_cmp place_cmp (copied_to q) (copied_to k)) _ (copy_to ps q later)
+  ]
 
-each_listed : (P : ℕ → Type 0) (ks : List ℕ) → ((q : ℕ) → list_any (eq_by_cmp nat_cmp q) ks ≡ true → P q) → AllByRecursion P ks
-each_listed P [] h = tt
-each_listed P (k ∷ ks) h = (
-  h k (or_left (eq_by_cmp nat_cmp k k) (list_any (eq_by_cmp nat_cmp k) ks) (unsigned_tied k k ∙ nat_eq_equiv.refl k)),
-  each_listed P ks (λ q among. h q (or_right (eq_by_cmp nat_cmp q k) (list_any (eq_by_cmp nat_cmp q) ks) among)),
-)
+-- the used tables of a space
+module _ (st : State) (space : ℕ) where
+  abbrev pub used : List Place
+  used = used_tables st space
 
-pub each_key : {X : Type 0} (P : ℕ → Type 0) (m : fin.FinMap nat_cmp X) → ((q : ℕ) (x : X) → fin.get m q ≡ Some x → P q) → AllByRecursion P (fin.keys m)
-each_key {X = X} P m h = each_listed P (fin.keys m) (λ q among. go q (fin.get m q) refl (contains_key-keys m q ∙ among))
-  where
-    go : (q : ℕ) (o : Option X) → fin.get m q ≡ o → is_some (fin.get m q) ≡ true → P q
-    go q (Some x) e i = h q x e
-    go q None e i = absurd (true≢false (sym i ∙ ap is_some e))
+  abbrev pub has_key : Place → Bool
+  has_key q = list_any (λ page. is_above (levels st) space page 1 q) (fin.keys (space_at st space))
 
-pub a_key : {X : Type 0} (m : fin.FinMap nat_cmp X) (q : ℕ) (x : X) → fin.get m q ≡ Some x → list_any (eq_by_cmp nat_cmp q) (fin.keys m) ≡ true
-a_key m q x e = sym (contains_key-keys m q) ∙ ap is_some e
+  pub used_is : (q : Place) → is_wanted used q ≡ true → (set.contains st.tables q ≡ true) × (has_key q ≡ true)
+  used_is q h =
+      let all = flat_map (λ page. above (levels st) space page 1) (fin.keys (space_at st space)) in
+      let both = and_parts (is_wanted all q) (set.contains st.tables q) (sym (wanted_filter (set.contains st.tables) all q) ∙ h) in
+      (both.1, sym (above_any (levels st) space (fin.keys (space_at st space)) q) ∙ both.0)
+
+  pub is_used_one : (q : Place) → set.contains st.tables q ≡ true → has_key q ≡ true → is_wanted used q ≡ true
+  is_used_one q here h =
+      let all = flat_map (λ page. above (levels st) space page 1) (fin.keys (space_at st space)) in
+      wanted_filter (set.contains st.tables) all q ∙ and_from _ _ (above_any (levels st) space (fin.keys (space_at st space)) q ∙ h) here
+
+  -- a table above a used one has a key too
+  parent_key : (q : Place) → q.level < levels st → has_key q ≡ true → has_key (parent q) ≡ true
+  parent_key q low h = some_passes (λ page. is_above (levels st) space page 1 q) (λ page. is_above (levels st) space page 1 (parent q)) (λ page. above_parent (levels st) space page 1 q (omega arith) low) (fin.keys (space_at st space)) h
+
+  -- and so has one whose span is not alike
+  unlike_key : (q : Place) → levels st ≤ 5 → q.space ≡ space → 1 ≤ q.level → q.level < levels st → is_unlike (space_at st space) q ≡ true → has_key q ≡ true
+  unlike_key q few e low high h =
+      some_passes (λ page. is_above (levels st - 1) space page 1 q) (λ page. is_above (levels st) space page 1 q) (λ page. lower_above (levels st) space page 1 q (omega arith)) (fin.keys (space_at st space))
+      (keyed (levels st) space (space_at st space) q few e low high h)
+
+  module _ (new : ℕ) (ok : IsConsistent st) where
+    copies_wanted : new < 64 → AreWanted (levels st) new (map (copied_to new) used)
+    copies_wanted known = record {
+      spaces = λ p h. ap (λ (q : Place). q.space) (copy_from new used p h).2;
+      places = λ p h. (let at = copy_from new used p h in subst (λ (q : Place). is_place (levels st) q ≡ true) (sym at.2) (moved_place at.0 (ok.places at.0 (used_is at.0 at.1).0)));
+      parents = λ p h below.
+          let at = copy_from new used p h in
+          let was = used_is at.0 at.1 in
+          let low = lower p at.0 at.2 below in
+          subst (λ (q : Place). is_wanted (map (copied_to new) used) (parent q) ≡ true) (sym at.2)
+          (copy_to new used (parent at.0) (is_used_one (parent at.0) (ok.parents at.0 was.0 (omega (arith, low))) (parent_key at.0 (omega (arith, low)) was.1)));
+    }
+      where
+        moved_place : (q : Place) → is_place (levels st) q ≡ true → is_place (levels st) (copied_to new q) ≡ true
+        moved_place q h = and_from _ _ (lt-ltb new 64 known) (and_parts (nat_lt q.space 64) (within 1 (levels st) q.level && nat_lt q.prefix (512 ^ (levels st - q.level))) h).1
+
+        lower : (p q : Place) → p ≡ copied_to new q → p.level + 1 < levels st → q.level + 1 < levels st
+        lower p q e h = omega (arith, ap (λ (x : Place). x.level) e, h)
+
+    copy_own : (p : Place) → p.space ≡ new → 1 ≤ p.level → p.level < levels st → is_unlike (space_at st space) p ≡ true → is_wanted (map (copied_to new) used) p ≡ true
+    copy_own p e low high h =
+        let q : Place = record { space = space; level = p.level; prefix = p.prefix } in
+        subst (λ (x : Place). is_wanted (map (copied_to new) used) x ≡ true) (ap (λ s. record { space = s; level = p.level; prefix = p.prefix }) (sym e))
+        (copy_to new used q (is_used_one q (ok.unlike q low high h) (unlike_key q ok.few_levels refl low high h)))
 
 -- ---- the calls
 
@@ -187,35 +243,29 @@ module _ (st : State) (thread limbo : ℕ) where
       go (Some n) e h fits = born_keeps st n 0 fin.empty (is_given_up st call.Spawn) (root (levels st) n ∷ []) ok (record {
         known = absent_known n e;
         none = λ p. refl;
-        want = root_wanted (levels st) n (absent_known n e) (omega arith);
+        want = root_wanted (levels st) n (absent_known n e) (omega (arith, ok.some_levels));
         rooted = root_first (levels st) n [];
         came = λ p c f. absurd (not_none (sym f ∙ get-empty nat_cmp p));
-        above = λ p k c f _ _. absurd (not_none (sym f ∙ get-empty nat_cmp p));
+        own = λ p _ _ _ h. absurd (true≢false (sym (none_alike fin.empty (span_first p) (span_count p) (λ q _ _. get-empty nat_cmp q)) ∙ not-true _ h));
         room = fits;
       })
 
-  -- the tables of a copy of a space
-  abbrev wanted_for : ℕ → ℕ → List Place
-  wanted_for space new = root (levels st) new ∷ flat_map (λ page. above (levels st) new page 1) (fin.keys (space_at st space))
-
   pub fork_keeps : (space : ℕ) → IsConsistent st → Passed st thread (call.Fork space) limbo → IsConsistent (state_after st thread (call.Fork space))
-  unfolding state_after
+  unfolding state_after copied_tables
   fork_keeps space ok passed = go (least_absent st) refl (held_of _ _ passed.spaces) (room st thread (call.Fork space) limbo passed)
     where
-      go : (o : Option ℕ) → least_absent st ≡ o → is_some o ≡ true → linked st + need (option_map_or (wanted_for space) o []) st.tables ≤ st.limits.tables →
-          IsConsistent (changed st (unwrap_or o 0) (space_at st space) (changed_tables (is_given_up st (call.Fork space)) (option_map_or (wanted_for space) o []) st.tables))
+      go : (o : Option ℕ) → least_absent st ≡ o → is_some o ≡ true → linked st + need (option_map_or (copied_tables st space) o []) st.tables ≤ st.limits.tables →
+          IsConsistent (changed st (unwrap_or o 0) (space_at st space) (changed_tables (is_given_up st (call.Fork space)) (option_map_or (copied_tables st space) o []) st.tables))
       go None e h fits = absurd (true≢false (sym h))
       go (Some n) e h fits =
           let known = absent_known n e in
-          let keys = fin.keys (space_at st space) in
-          born_keeps st n space (space_at st space) (is_given_up st (call.Fork space)) (wanted_for space n) ok (record {
+          born_keeps st n space (space_at st space) (is_given_up st (call.Fork space)) (root (levels st) n ∷ map (copied_to n) (used st space)) ok (record {
             known = known;
             none = λ p. refl;
-            want = both_wanted (levels st) n (root (levels st) n ∷ []) (above_keys (levels st) n keys) (root_wanted (levels st) n known (omega arith))
-                (keys_wanted (levels st) n keys known (each_key (λ page. is_user_page (levels st) page ≡ true) (space_at st space) (λ q c f. ok.pages space q c f)));
-            rooted = root_first (levels st) n (above_keys (levels st) n keys);
+            want = both_wanted (levels st) n (root (levels st) n ∷ []) (map (copied_to n) (used st space)) (root_wanted (levels st) n known (omega (arith, ok.some_levels))) (copies_wanted st space n ok known);
+            rooted = root_first (levels st) n (map (copied_to n) (used st space));
             came = λ p c f. f;
-            above = λ p k c f low high. or_right (eq_by_cmp place_cmp (place_of n k p) (root (levels st) n)) _ (key_above (levels st) n keys p k (a_key (space_at st space) p c f) low high);
+            own = λ p at low high u. or_right (eq_by_cmp place_cmp p (root (levels st) n)) _ (copy_own st space n ok p at low high u);
             room = fits;
           })
 
@@ -255,13 +305,20 @@ module _ (st : State) (space : ℕ) where
   left : (p : Place) → set.contains tables_left p ≡ true → (set.contains st.tables p ≡ true) × (of_space p ≡ false)
   left p h = elim (whence of_space [] st.tables p h) [ inl old ↦ old | inr new ↦ absurd (true≢false (sym new)) ]
 
+  unlike_left : IsConsistent st → (p : Place) → 1 ≤ p.level → p.level < levels st → is_unlike (unwrap_or (cond (nat_eq p.space space) None (fin.get st.spaces p.space)) fin.empty) p ≡ true → set.contains tables_left p ≡ true
+  unlike_left ok p low high = go (nat_eq p.space space) refl
+    where
+      go : (b : Bool) → nat_eq p.space space ≡ b → is_unlike (unwrap_or (cond b None (fin.get st.spaces p.space)) fin.empty) p ≡ true → set.contains tables_left p ≡ true
+      go true e h = absurd (true≢false (sym (none_alike fin.empty (span_first p) (span_count p) (λ q _ _. get-empty nat_cmp q)) ∙ not-true _ h))
+      go false e h = stays of_space [] st.tables p (ok.unlike p low high h) e
+
   pub exit_keeps : (thread : ℕ) → IsConsistent st → IsConsistent (state_after st thread (call.Exit space))
   unfolding state_after
   exit_keeps thread ok = copied_keeps st removed tables_left (λ s. s) ok (record {
     cells = λ s p c e. (other_cell s p c e).1;
     known = λ s h. ok.spaces s (other_present s h).1;
     roots = λ s h. stays of_space [] st.tables (root (levels st) s) (ok.roots s (other_present s h).1) (other_present s h).0;
-    above = λ s p k c e low high. stays of_space [] st.tables (place_of s k p) (ok.above s p k c (other_cell s p c e).1 low high) (other_cell s p c e).0;
+    unlike = λ p low high h. unlike_left ok p low high (sym (ap (λ (o : Option AddressSpace). is_unlike (unwrap_or o fin.empty) p) (still p.space)) ∙ h);
     parents = λ p h below. stays of_space [] st.tables (parent p) (ok.parents p (left p h).0 below) (left p h).1;
     absent = λ p h. others_present p.space (left p h).1 (ok.absent p (left p h).0);
     places = λ p h. ok.places p (left p h).0;

@@ -1,10 +1,15 @@
 pub mod Change
 pub mod Cell
+pub mod Alike
+pub mod SpanKinds
+pub mod Cutting
 pub mod State
 pub mod Takes
 pub mod Tables
 pub mod Access
 pub mod Mapping
+pub mod DontNeed
+pub mod Remap
 pub mod Swap
 pub mod Spaces
 pub mod Effect

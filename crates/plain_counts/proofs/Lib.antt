@@ -7,3 +7,5 @@ pub mod Tally
 pub mod Levels
 pub mod Missing
 pub mod Removed
+pub mod Noted
+pub mod Lacks

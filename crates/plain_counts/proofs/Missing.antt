@@ -1,53 +1,15 @@
 -- Putting in the tables that are missing, and taking them out again.
-use Rattle.std.proofs.Common.{◌≡◌, ℕ, zero, suc, ◌+◌, ◌-◌, ◌≤◌, Bool, true, false, cond, not, List, [], ◌∷◌, ◌++◌, take, append_assoc, refl, sym, ap, ◌∙◌, arith}
+use Rattle.std.proofs.Common.{◌≡◌, ℕ, zero, suc, ◌+◌, ◌-◌, Bool, true, false, not, List, [], ◌∷◌, ◌++◌, take, refl, sym, ap, ◌∙◌}
 use mathlib.Core.Bool.{true≢false}
 use Rattle.std.specs.Prelude.{◌&&◌, ◌||◌}
-use Rattle.std.specs.List.{list_any, filter}
+use Rattle.std.specs.List.{list_any}
 use Rattle.std.specs.Ordering.{eq_by_cmp}
 use Rattle.std.specs.declared.cmp.Ordering.{Ordering}
 use Rattle.std.specs.Cmp.{IsTotalOrder}
 use Rattle.std.specs.FinMap.{IsAntisymmetric}
 use Rattle.std.specs.FinSet as set
 use Rattle.std.specs.FinSet.{FinSet, same_set, contains-empty, contains-insert, contains-remove, contains-union, contains-difference, contains-from_list, from_list_push}
-use Rattle.std.proofs.lemmas.List.Elements.{filter-append}
-use Rattle.std.proofs.lemmas.List.FromFn.{filter_of_map_range_with_len_more}
-use Rattle.std.proofs.lemmas.Map.Views.{any-filter_same}
-use Rattle.table_place.specs.declared.Place.{Place}
-use Rattle.table_place.specs.Place.{above, above_in_level}
-use Rattle.page_map.proofs.Evaluate.{tied, union_insert}
-use Rattle.page_map.specs.Tables.{Tables}
-use Rattle.plain_counts.specs.Levels.{tables_of}
-use Rattle.plain_counts.proofs.Levels.{above_more, same_level, next_level}
-
--- ---- which are missing
-
-abbrev pub not_in : Tables → Place → Bool
-not_in s p = not (set.contains s p)
-
--- one prefix more
-pub listed_more : (test : Place → Bool) (space level low prefix : ℕ) (all : List Place) → low ≤ prefix →
-    all ++ filter test (tables_of space level low (prefix + 1 - low))
-    ≡ (all ++ filter test (tables_of space level low (prefix - low))) ++ cond (test (record { space = space; level = level; prefix = prefix })) (record { space = space; level = level; prefix = prefix } ∷ []) []
-listed_more test space level low prefix all h =
-    let here : low + (prefix - low) ≡ prefix = omega arith in
-    let count : prefix + 1 - low ≡ prefix - low + 1 = omega arith in
-    let at : ℕ → Place = λ prefix. record { space = space; level = level; prefix = prefix } in
-    ap (λ n. all ++ filter test (tables_of space level low n)) count
-    ∙ ap (λ ps. all ++ ps) (filter_of_map_range_with_len_more test at low (prefix - low) prefix here)
-    ∙ sym (append_assoc all (filter test (tables_of space level low (prefix - low))) (cond (test (at prefix)) (at prefix ∷ []) []))
-
--- one level more
-pub missing_more : (test : Place → Bool) (level space first count : ℕ) → 1 ≤ level →
-    filter test (above (level + 1 - 1) space first count) ≡ filter test (above (level - 1) space first count) ++ filter test (above_in_level space first count level)
-missing_more test level space first count low =
-    ap (λ k. filter test (above k space first count)) (sym (next_level level low))
-    ∙ ap (filter test) (above_more (level - 1) space first count)
-    ∙ filter-append test (above (level - 1) space first count) (above_in_level space first count (1 + (level - 1)))
-    ∙ ap (λ l. filter test (above (level - 1) space first count) ++ filter test (above_in_level space first count l)) (same_level level low)
-
-pub none_missing : (test : Place → Bool) (space first count : ℕ) → [] ≡ filter test (above 0 space first count)
-unfolding above
-none_missing test space first count = refl
+use Rattle.page_map.proofs.Evaluate.{union_insert}
 
 -- ---- putting in and taking out
 
@@ -83,36 +45,58 @@ module _ {K : Type 0} {R : K → K → Ordering} (o : IsTotalOrder R) (same : Is
       turn false true t = refl
       turn false false t = refl
 
+  -- what was not there, put in as far as memory went, and taken out again
+  pub taken_out : (s : FinSet R) (ks : List K) (n : ℕ) → set.difference s (set.from_list ks) ≡ s → set.difference (set.union s (set.from_list (take n ks))) (set.from_list ks) ≡ s
+  taken_out s ks n apart = same_set o same _ _ (λ q.
+      contains-difference o (set.union s (set.from_list (take n ks))) (set.from_list ks) q
+      ∙ (λ i. (contains-union o s (set.from_list (take n ks)) q ∙ ap (λ b. set.contains s q || b) (contains-from_list o (take n ks) q)) i && not (contains-from_list o ks q i))
+      ∙ left (set.contains s q) (list_any (eq_by_cmp R q) (take n ks)) (list_any (eq_by_cmp R q) ks)
+      (sym (contains-difference o s (set.from_list ks) q ∙ ap (λ b. set.contains s q && not b) (contains-from_list o ks q)) ∙ ap (λ t. set.contains t q) apart)
+      (any_taken (eq_by_cmp R q) n ks))
+    where
+      left : (c t m : Bool) → (c && not m) ≡ c → (t ≡ true → m ≡ true) → ((c || t) && not m) ≡ c
+      left true t m e h = e
+      left false true m e h = ap not (h refl)
+      left false false m e h = refl
+
+  -- the missing ones of a list
   module _ (s : FinSet R) (ks : List K) where
-    abbrev pub missing : List K
-    missing = filter (λ k. not (set.contains s k)) ks
+    abbrev missing_of : FinSet R
+    missing_of = set.difference (set.from_list ks) s
 
-    abbrev is_listed : List K → K → Bool
-    is_listed ks q = list_any (eq_by_cmp R q) ks
+    -- none of them is there
+    pub missing_apart : set.difference s missing_of ≡ s
+    missing_apart = same_set o same _ _ (λ q.
+        contains-difference o s missing_of q ∙ ap (λ b. set.contains s q && not b) (contains-difference o (set.from_list ks) s q)
+        ∙ out (set.contains s q) (set.contains (set.from_list ks) q))
+      where
+        out : (c a : Bool) → (c && not (a && not c)) ≡ c
+        out true true = refl
+        out true false = refl
+        out false a = refl
 
-    -- a key is missing where it is one of them and not in the set
-    in_missing : (q : K) → is_listed missing q ≡ (not (set.contains s q) && is_listed ks q)
-    in_missing q = any-filter_same (eq_by_cmp R q) (λ k. not (set.contains s k)) (not (set.contains s q)) (λ k t. ap (λ x. not (set.contains s x)) (sym (tied o same q k t))) ks
-
-    -- with those that are missing, all are there
-    pub all_there : set.union s (set.from_list missing) ≡ set.union s (set.from_list ks)
+    -- with them all are there
+    pub all_there : set.union s missing_of ≡ set.union s (set.from_list ks)
     all_there = same_set o same _ _ (λ q.
-        contains-union o s (set.from_list missing) q ∙ ap (λ b. set.contains s q || b) (contains-from_list o missing q ∙ in_missing q)
-        ∙ joined (set.contains s q) (is_listed ks q)
-        ∙ sym (contains-union o s (set.from_list ks) q ∙ ap (λ b. set.contains s q || b) (contains-from_list o ks q)))
+        contains-union o s missing_of q ∙ ap (λ b. set.contains s q || b) (contains-difference o (set.from_list ks) s q)
+        ∙ joined (set.contains s q) (set.contains (set.from_list ks) q)
+        ∙ sym (contains-union o s (set.from_list ks) q))
       where
-        joined : (c a : Bool) → (c || (not c && a)) ≡ (c || a)
+        joined : (c a : Bool) → (c || (a && not c)) ≡ (c || a)
         joined true a = refl
-        joined false a = refl
+        joined false true = refl
+        joined false false = refl
 
-    -- some of those that were missing are put in, and all of them are taken out
-    pub taken_out : (n : ℕ) → set.difference (set.union s (set.from_list (take n missing))) (set.from_list missing) ≡ s
-    taken_out n = same_set o same _ _ (λ q.
-        contains-difference o (set.union s (set.from_list (take n missing))) (set.from_list missing) q
-        ∙ (λ i. (contains-union o s (set.from_list (take n missing)) q ∙ ap (λ b. set.contains s q || b) (contains-from_list o (take n missing) q)) i && not (contains-from_list o missing q i))
-        ∙ left (set.contains s q) (is_listed ks q) (is_listed (take n missing) q) (is_listed missing q) (in_missing q) (any_taken (eq_by_cmp R q) n missing))
+    -- and without them again as before
+    pub out_again : set.difference (set.union s missing_of) missing_of ≡ s
+    out_again = same_set o same _ _ (λ q.
+        contains-difference o (set.union s missing_of) missing_of q
+        ∙ ap (λ b. b && not (set.contains missing_of q)) (contains-union o s missing_of q)
+        ∙ ap (λ b. (set.contains s q || b) && not b) (contains-difference o (set.from_list ks) s q)
+        ∙ left (set.contains s q) (set.contains (set.from_list ks) q))
       where
-        left : (c a t m : Bool) → m ≡ (not c && a) → (t ≡ true → m ≡ true) → ((c || t) && not m) ≡ c
-        left true a t m e h = ap not e
-        left false a true m e h = ap not (h refl)
-        left false a false m e h = refl
+        left : (c a : Bool) → ((c || (a && not c)) && not (a && not c)) ≡ c
+        left true true = refl
+        left true false = refl
+        left false true = refl
+        left false false = refl

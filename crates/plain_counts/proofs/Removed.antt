@@ -156,15 +156,15 @@ same_level false false t w v h g = refl
 same_level false true t w v h g = refl
 same_level true true t w v h g = g refl ∙ ap (λ b. b && v) (sym (h refl))
 
-module _ (space level first end size : ℕ) (low : level < 4) (range : first ≤ end) (is_size : size ≡ 512 ^ level) (some : 0 < size) where
+module _ (levels space level first end size : ℕ) (low : level < levels) (range : first ≤ end) (is_size : size ≡ 512 ^ level) (some : 0 < size) where
   -- those from one place on and before another lie in the range
   pub covered_places : (p : Place) →
       is_between (record { space = space; level = level; prefix = div_ceil first size }) (record { space = space; level = level; prefix = max (div_ceil first size) (end / size) }) p
-      ≡ (nat_eq p.level level && is_inside 4 space first (end - first) p)
+      ≡ (nat_eq p.level level && is_inside levels space first (end - first) p)
   covered_places p =
       between_places space level (div_ceil first size) (max (div_ceil first size) (end / size)) (omega arith) p
-      ∙ same_level (nat_eq p.space space) (nat_eq p.level level) (nat_lt p.level 4) _ (lies_in (span_first p) (span_count p) first (end - first))
-      (λ e. lt-ltb p.level 4 (omega (arith, eqb-true p.level level e, low)))
+      ∙ same_level (nat_eq p.space space) (nat_eq p.level level) (nat_lt p.level levels) _ (lies_in (span_first p) (span_count p) first (end - first))
+      (λ e. lt-ltb p.level levels (omega (arith, eqb-true p.level level e, low)))
       (λ e.
       let same : size ≡ 512 ^ p.level = is_size ∙ ap (λ l. 512 ^ l) (sym (eqb-true p.level level e)) in
       let up_to : end ≡ first + (end - first) = omega (arith, range) in
@@ -191,13 +191,13 @@ step false true e true f g h = absurd (true≢false (sym (f refl)))
 step false false true true f g h = absurd (true≢false (sym (g refl)))
 step false false false true f g h = refl
 
-module _ (space first count : ℕ) where
+module _ (levels space first count : ℕ) where
   -- those of the levels below
   abbrev pub is_inside_below : ℕ → Place → Bool
-  is_inside_below level p = nat_lt p.level level && is_inside 4 space first count p
+  is_inside_below level p = nat_lt p.level level && is_inside levels space first count p
 
-  pub one_level_more : (level : ℕ) (p : Place) → (not (is_inside_below level p) && not (nat_eq p.level level && is_inside 4 space first count p)) ≡ not (is_inside_below (level + 1) p)
-  one_level_more level p = step (nat_lt p.level (level + 1)) (nat_lt p.level level) (nat_eq p.level level) (is_inside 4 space first count p)
+  pub one_level_more : (level : ℕ) (p : Place) → (not (is_inside_below level p) && not (nat_eq p.level level && is_inside levels space first count p)) ≡ not (is_inside_below (level + 1) p)
+  one_level_more level p = step (nat_lt p.level (level + 1)) (nat_lt p.level level) (nat_eq p.level level) (is_inside levels space first count p)
       (λ e. lt-ltb p.level (level + 1) (below e)) (λ e. lt-ltb p.level (level + 1) (omega (arith, eqb-true p.level level e)))
       (λ e f. eq-eqb p.level level (here e f))
     where
@@ -208,10 +208,10 @@ module _ (space first count : ℕ) where
       here e f = omega (arith, ltb-true p.level (level + 1) e, ltb-false p.level level f)
 
   pub no_level : (p : Place) → not (is_inside_below 0 p) ≡ true
-  no_level p = ap (λ b. not (b && is_inside 4 space first count p)) (le-ltb p.level 0 (omega arith))
+  no_level p = ap (λ b. not (b && is_inside levels space first count p)) (le-ltb p.level 0 (omega arith))
 
-  pub all_levels : (p : Place) → not (is_inside_below 4 p) ≡ not (is_inside 4 space first count p)
-  all_levels p = ap not (go (nat_eq p.space space) (nat_lt p.level 4) (lies_in (span_first p) (span_count p) first count))
+  pub all_levels : (p : Place) → not (is_inside_below levels p) ≡ not (is_inside levels space first count p)
+  all_levels p = ap not (go (nat_eq p.space space) (nat_lt p.level levels) (lies_in (span_first p) (span_count p) first count))
     where
       go : (s l v : Bool) → (l && ((s && l) && v)) ≡ ((s && l) && v)
       go true true v = refl

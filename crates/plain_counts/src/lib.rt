@@ -3,11 +3,13 @@
 #![tactic(auto)]
 
 mod counts;
+mod cut;
 mod fronts;
 mod owners;
 mod tables;
 
 pub use counts::Counts;
+pub use cut::Pages;
 pub use fronts::{ARENA_PAGES, Fronts};
 pub use owners::Owners;
-pub use tables::{Tables, prefixes};
+pub use tables::{Tables, span};

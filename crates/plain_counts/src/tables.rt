@@ -1,11 +1,9 @@
 //! The page tables that are there, by their places.
-ghost use Rattle.std.specs.Prelude.{◌≡◌, ℕ, ◌+◌, ◌-◌, ◌<◌, ◌≤◌, ◌^◌, ◌++◌, true, false, not, ◌&&◌, nat_eq, take, filter, sum_by, OnOk, OnErr, IfOk, IfSome, IfNone};
-ghost use Rattle.std.specs.List.{range_with_len};
+ghost use Rattle.std.specs.Prelude.{◌≡◌, ℕ, ◌-◌, ◌<◌, ◌≤◌, ◌^◌, true, false, not, ◌&&◌, nat_eq, take, OnOk, OnErr, IfOk, IfSome, IfNone};
 ghost use Rattle.std.specs.FinSet as set;
-ghost use Rattle.table_place.specs.Place.{above, is_above, is_inside, prefix_first, prefix_count};
-ghost use Rattle.page_map.specs.Tables.{need};
+ghost use Rattle.table_place.specs.Place.{is_inside};
 ghost use Rattle.table_place.specs.declared.Place.{Place};
-ghost use Rattle.plain_counts.specs.Levels.{tables_of, is_in_level, is_elsewhere, is_between, first_of, IsUpTo};
+ghost use Rattle.plain_counts.specs.Levels.{is_in_level, is_of, is_elsewhere, is_between, first_of, IsUpTo, Lists};
 
 use std::alloc::{AllocError, Global};
 use std::collections::BTreeSet;
@@ -32,7 +30,7 @@ impl Model for Tables {
 }
 
 /// The number of pages in the span of a table.
-fn span(level: u8) -> u64
+pub fn span(level: u8) -> u64
     requires { level ≤ 4 }
     ensures pages { result ≡ 512 ^ level }
     ensures some { 0 < result }
@@ -46,39 +44,12 @@ fn span(level: u8) -> u64
     }
 }
 
-/// The tables of one level, by their prefixes, that have a page of a range in their spans.
-pub fn prefixes(level: u8, first: u64, count: u64) -> Range<u64>
-    requires below_root { level ≤ 4 }
-    requires some { 0 < count }
-    requires fits { first + count ≤ 2 ^ 36 }
-    ensures start { result.start ≡ prefix_first level first }
-    ensures end { result.end ≡ prefix_first level first + prefix_count level first count }
-    ensures small { result.end ≤ 2 ^ 36 }
-{
-    let pages = span(level);
-    first / pages..(first + count - 1) / pages + 1
-}
-
-/// How many tables have a page of a range in their spans, whether they are there or not.
-fn above_count(first: u64, count: u64) -> u64
-    requires some { 0 < count }
-    requires fits { first + count ≤ 2 ^ 36 }
-    ensures value { result ≡ sum_by (λ level. prefix_count level first count) (range_with_len 1 4) }
-    ensures small { result < 2 ^ 39 }
-{
-    let mut tables = 0;
-    for level in 1..5 {
-        let prefixes = prefixes(level, first, count);
-        tables += prefixes.end - prefixes.start;
-    }
-    tables
-}
-
 /// Whether a table is below the root and its whole span lies in a range of pages.
-fn is_covered(p: &Place, space: u8, first: u64, count: u64) -> bool
-    ensures { result ≡ is_inside 4 space first count p.now }
+fn is_covered(levels: u8, p: &Place, space: u8, first: u64, count: u64) -> bool
+    requires { levels ≤ 5 }
+    ensures { result ≡ is_inside levels space first count p.now }
 {
-    if p.space != space || p.level >= 4 {
+    if p.space != space || p.level >= levels {
         return false;
     }
     let pages = u128::from(span(p.level));
@@ -115,7 +86,7 @@ impl Tables {
     }
 
     /// Whether a table is there.
-    fn contains(&self, place: &Place) -> bool
+    pub fn contains(&self, place: &Place) -> bool
         ensures { result ≡ set.contains self.now place.now }
     {
         self.places.contains(place)
@@ -148,77 +119,24 @@ impl Tables {
         self.places.range(low..high).count()
     }
 
-    /// How many tables have a page of a range in their spans.
-    fn above_len(&self, space: u8, first: u64, count: u64) -> u32
-        requires some { 0 < count }
-        requires fits { first + count ≤ 2 ^ 36 }
-        requires few { set.len self.now < 2 ^ 32 }
-        ensures { result ≡ set.len (set.retain self.now (is_above 4 space first count)) }
+    /// The tables of a space.
+    pub fn of_space(&self, alloc: Global, space: u8) -> Result<Vec<Place>, AllocError>
+        requires { space < 64 }
+        ensures { IfOk result (λ tables. Lists (set.retain self.now (is_of space)) tables.items) }
     {
-        let mut tables = 0;
-        for level in 1..5 {
-            tables += self.level_len(space, level, prefixes(level, first, count)) as u32;
-        }
-        tables
+        let places = self.places.range(first_of(space)..first_of(space + 1));
+        places.copied().collect(alloc)
     }
 
-    /// How many tables above a range of pages are missing, in the time of those that are there.
-    pub fn need(&self, space: u8, first: u64, count: u64) -> u64
-        requires some { 0 < count }
-        requires fits { first + count ≤ 2 ^ 36 }
-        requires few { set.len self.now < 2 ^ 32 }
-        ensures value { result ≡ need (above 4 space first count) self.now }
-        ensures small { result < 2 ^ 39 }
+    /// All tables.
+    pub fn list(&self, alloc: Global) -> Result<Vec<Place>, AllocError>
+        ensures { IfOk result (λ tables. Lists self.now tables.items) }
     {
-        above_count(first, count) - u64::from(self.above_len(space, first, count))
-    }
-
-    /// Lists the tables of one level that are missing, from one prefix up to another, after those listed.
-    fn list_missing(
-        &self,
-        space: u8,
-        level: u8,
-        prefixes: Range<u64>,
-        missing: &mut Vec<Place>,
-    ) -> Result<(), AllocError>
-        requires { prefixes.start ≤ prefixes.end }
-        ensures { OnOk result (missing.new.items ≡ missing.old.items
-            ++ filter (λ p. not (set.contains self.now p)) (tables_of space level prefixes.start (prefixes.end - prefixes.start))) }
-    {
-        for prefix in prefixes.start..prefixes.end {
-            let place = Place {
-                space,
-                level,
-                prefix,
-            };
-            if !self.contains(&place) {
-                missing.push(place)?;
-            }
-        }
-        Ok(())
-    }
-
-    /// The tables above a range of pages that are missing.
-    pub fn missing(
-        &self,
-        alloc: Global,
-        space: u8,
-        first: u64,
-        count: u64,
-    ) -> Result<Vec<Place>, AllocError>
-        requires some { 0 < count }
-        requires fits { first + count ≤ 2 ^ 36 }
-        ensures { IfOk result (λ m. m.items ≡ filter (λ p. not (set.contains self.now p)) (above 4 space first count)) }
-    {
-        let mut missing = Vec::new(alloc);
-        for level in 1..5 {
-            self.list_missing(space, level, prefixes(level, first, count), &mut missing)?;
-        }
-        Ok(missing)
+        self.places.iter().copied().collect(alloc)
     }
 
     /// Puts in tables one by one, until memory is wanted.
-    pub fn insert_all(&mut self, places: &[Place]) -> Result<(), AllocError>
+    fn insert_some(&mut self, places: &[Place]) -> Result<(), AllocError>
         ensures ok { OnOk result (self.new ≡ set.union self.old (set.from_list places.now)) }
         ensures err { OnErr result ((k : ℕ) × (self.new ≡ set.union self.old (set.from_list (take k places.now)))) }
     {
@@ -244,25 +162,16 @@ impl Tables {
         }
     }
 
-    /// Puts in the tables above a range of pages that are missing, and lists them.
-    pub fn add_above(
-        &mut self,
-        alloc: Global,
-        space: u8,
-        first: u64,
-        count: u64,
-    ) -> Result<Vec<Place>, AllocError>
-        requires some { 0 < count }
-        requires fits { first + count ≤ 2 ^ 36 }
-        ensures ok { OnOk result (self.new ≡ set.union self.old (set.from_list (above 4 space first count))) }
-        ensures added { IfOk result (λ added. set.difference self.new (set.from_list added.items) ≡ self.old) }
+    /// Puts in tables, all of them or none.
+    pub fn insert_all(&mut self, places: &[Place]) -> Result<(), AllocError>
+        requires absent { set.difference self.old (set.from_list places.now) ≡ self.old }
+        ensures ok { OnOk result (self.new ≡ set.union self.old (set.from_list places.now)) }
         ensures err { OnErr result (self.new ≡ self.old) }
     {
-        let missing = self.missing(alloc, space, first, count)?;
-        match self.insert_all(&missing) {
-            Ok(()) => Ok(missing),
+        match self.insert_some(places) {
+            Ok(()) => Ok(()),
             Err(wanting) => {
-                self.remove_all(&missing);
+                self.remove_all(places);
                 Err(wanting)
             }
         }
@@ -291,10 +200,11 @@ impl Tables {
     }
 
     /// Removes the tables of one level whose spans lie in a range of pages.
-    fn remove_covered(&mut self, space: u8, level: u8, first: u64, end: u64)
-        requires level { level < 4 }
+    fn remove_covered(&mut self, levels: u8, space: u8, level: u8, first: u64, end: u64)
+        requires few { levels ≤ 5 }
+        requires level { level < levels }
         requires range { first ≤ end }
-        ensures { self.new ≡ set.retain self.old (λ p. not (nat_eq p.level level && is_inside 4 space first (end - first) p)) }
+        ensures { self.new ≡ set.retain self.old (λ p. not (nat_eq p.level level && is_inside levels space first (end - first) p)) }
     {
         let pages = span(level);
         let start = first.div_ceil(pages);
@@ -311,24 +221,28 @@ impl Tables {
         self.remove_between(low, high);
     }
 
-    /// Removes the tables whose spans lie in a range of pages, in the time of those.
-    pub fn remove_inside(&mut self, space: u8, first: u64, count: u64)
-        ensures { self.new ≡ set.retain self.old (λ p. not (is_inside 4 space first count p)) }
+    /// Removes the tables below the root whose spans lie in a range of pages, in the time of those.
+    pub fn remove_inside(&mut self, levels: u8, space: u8, first: u64, count: u64)
+        requires { levels ≤ 5 }
+        ensures { self.new ≡ set.retain self.old (λ p. not (is_inside levels space first count p)) }
     {
         match first.checked_add(count) {
-            Some(end) => self.remove_up_to(space, first, end),
+            Some(end) => self.remove_up_to(levels, space, first, end),
             // No range of pages of a space reaches so far.
-            None => self.places.retain(|p| !is_covered(p, space, first, count)),
+            None => self
+                .places
+                .retain(|p| !is_covered(levels, p, space, first, count)),
         }
     }
 
-    /// Removes the tables whose spans lie in the pages from one on and before another.
-    fn remove_up_to(&mut self, space: u8, first: u64, end: u64)
-        requires { first ≤ end }
-        ensures { self.new ≡ set.retain self.old (λ p. not (is_inside 4 space first (end - first) p)) }
+    /// Removes the tables below the root whose spans lie in the pages from one on and before another.
+    fn remove_up_to(&mut self, levels: u8, space: u8, first: u64, end: u64)
+        requires few { levels ≤ 5 }
+        requires range { first ≤ end }
+        ensures { self.new ≡ set.retain self.old (λ p. not (is_inside levels space first (end - first) p)) }
     {
-        for level in 0..4 {
-            self.remove_covered(space, level, first, end);
+        for level in 0..levels {
+            self.remove_covered(levels, space, level, first, end);
         }
     }
 

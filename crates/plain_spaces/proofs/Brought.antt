@@ -11,7 +11,7 @@ use Rattle.std.specs.FinMap.{get}
 use Rattle.table_place.specs.Range.{within}
 use Rattle.page_map.specs.declared.cell.Cell.{Cell}
 use Rattle.page_map.specs.declared.cell.Cell.TheVariants.{Anon, File, Mapped, Swapped}
-use Rattle.page_map.specs.Cell.{perm_of, contents}
+use Rattle.page_map.specs.Cell.{backing_of, perm_of, contents}
 use Rattle.page_map.specs.Change.{change, set_at}
 use Rattle.page_map.specs.State.{AddressSpace}
 use Rattle.page_map.specs.Takes.{Grant, grant, granted}
@@ -33,14 +33,14 @@ Fits files None cell = given files None cell ≡ cell
 Fits files (Some want) cell = want.body ≡ contents files cell
 
 fits : (files : List (List ℕ)) (owners : ℕ → ℕ) (write : Bool) (cell : Cell) → Fits files (want_of files owners write cell) cell
-fits files owners write (Mapped perm frame bytes) = go (write && not (nat_eq (owners frame) 1))
+fits files owners write (Mapped perm origin frame bytes) = go (write && not (nat_eq (owners frame) 1))
   where
-    go : (b : Bool) → Fits files (cond b (Some (moving files (Mapped perm frame bytes))) None) (Mapped perm frame bytes)
+    go : (b : Bool) → Fits files (cond b (Some (moving files (Mapped perm origin frame bytes))) None) (Mapped perm origin frame bytes)
     go true = refl
     go false = refl
 fits files owners write (Anon perm) = refl
 fits files owners write (File perm file index) = refl
-fits files owners write (Swapped perm slot bytes) = refl
+fits files owners write (Swapped perm origin slot bytes) = refl
 
 module _ (files : List (List ℕ)) (owners : ℕ → ℕ) (write : Bool) where
   pub wanted_there : (o : Option Cell) (want : Option Want) → option_map (want_of files owners write) o ≡ Some want → IsSome o
@@ -67,7 +67,7 @@ laid_is files cells page frame want there fits taken = go (get cells page) refl 
     each cell here None None fits e = sym (at cell here (given files None) ∙ ap (fin.insert cells page) fits ∙ put_back cells page cell here)
     each cell here (Some n) (Some w) fits e =
         at cell here (with_held (record { number = Frame n; bytes = w.body }))
-        ∙ ap (λ b. fin.insert cells page (Mapped (perm_of cell) n b)) fits
+        ∙ ap (λ b. fin.insert cells page (Mapped (perm_of cell) (backing_of cell) n b)) fits
         ∙ sym (at cell here (given files (Some n)))
     each cell here None (Some w) fits e = absurd (false≢true e)
     each cell here (Some n) None fits e = absurd (false≢true (sym e))

@@ -1,16 +1,13 @@
 -- Pages of files.
 use Rattle.std.proofs.Common.{◌≡◌, ℕ, ◌+◌, ◌-◌, ◌*◌, ◌<◌, ◌≤◌, Bool, true, false, List, [], ◌++◌, append-nil, length, take, drop, take_all, replicate, refl, sym, ap, ◌∙◌, arith}
 use mathlib.Core.Logic.{inl, inr}
-use Rattle.std.specs.Prelude.{nat_le, slice_get, Option, Some, None}
+use Rattle.std.specs.Prelude.{nat_le}
 use Rattle.std.specs.Option.{unwrap_or}
 use Rattle.std.proofs.lemmas.Bool.{cases_lt, le-leb, leb-true}
 use Rattle.std.proofs.lemmas.List.{drop_all, drop-replicate, take-replicate, take-append-le, length-take-le, length-replicate}
 use Rattle.std.proofs.lemmas.Option.{slice_get_past}
 use Rattle.std.proofs.Math.Seq.{take-append-add}
 use Rattle.corten_base.specs.Bytes.{bytes_after_write}
-use Rattle.file_shelf.specs.Pages.{IsPage}
-use Rattle.file_shelf.specs.declared.FilePage.{FilePage}
-use Rattle.file_shelf.specs.declared.FilePage.TheVariants.{NoFile, PastEnd, Bytes}
 use Rattle.page_map.specs.Cell.{zeros, file_bytes, file_page}
 use Rattle.page_map.proofs.Bytes.{length_zeros}
 

@@ -1,12 +1,11 @@
 -- Counts of owners that follow cells through several changes.
-use Rattle.std.proofs.Common.{◌≡◌, ℕ, zero, suc, ◌+◌, ◌≤◌, Bool, true, false, cond, List, refl, sym, ap, ◌∙◌, arith}
+use Rattle.std.proofs.Common.{◌≡◌, ℕ, zero, suc, ◌+◌, Bool, true, false, cond, List, refl, sym, ap, ◌∙◌, arith}
 use Rattle.std.specs.Prelude.{Option, Some, None, nat_eq}
 use Rattle.std.specs.Option.{option_map, option_map_or}
-use Rattle.std.specs.Ordering.{nat_cmp}
 use Rattle.std.specs.Cmp.{nat_cmp_total, unsigned_tied}
 use Rattle.std.proofs.lemmas.Bool.{eqb-true}
 use Rattle.std.specs.FinMap as fin
-use Rattle.std.specs.FinMap.{FinMap, get, get-insert, get-remove, same_map, nat_cmp-IsAntisymmetric}
+use Rattle.std.specs.FinMap.{get, get-insert, get-remove, same_map, nat_cmp-IsAntisymmetric}
 use Rattle.corten_base.specs.declared.permissions.Perm.{Perm}
 use Rattle.table_place.specs.Range.{within}
 use Rattle.page_map.specs.declared.cell.Cell.{Cell}
@@ -18,7 +17,7 @@ use Rattle.page_map.specs.State.{AddressSpace, carries}
 use Rattle.page_map.proofs.Weights.{weight_insert}
 use Rattle.plain_counts.specs.declared.counts.Counts.{Counts}
 use Rattle.plain_counts.specs.Counts.{carried, one_at, AreCounted, IsCounted, Follows, Follow}
-use Rattle.plain_spaces.proofs.Moves.{counts_once, carried_insert}
+use Rattle.plain_spaces.proofs.Moves.{counts_once}
 
 module _ (number_of : Cell → Option ℕ) where
   followed : (counts : List ℕ) (cells : AddressSpace) → Follows number_of counts counts cells cells
@@ -113,8 +112,8 @@ protected_stay counts m first count perm = counts_stay frame_of counts m first c
     go n None = refl
     go n (Some (Anon p)) = refl
     go n (Some (File p file index)) = refl
-    go n (Some (Mapped p frame bytes)) = refl
-    go n (Some (Swapped p slot bytes)) = refl
+    go n (Some (Mapped p came frame bytes)) = refl
+    go n (Some (Swapped p came slot bytes)) = refl
 
 protected_slots_stay : (counts : List ℕ) (m : AddressSpace) (first count : ℕ) (perm : Perm) → Follows slot_of counts counts m (change m first count (λ _. option_map (with_perm perm)))
 protected_slots_stay counts m first count perm = counts_stay slot_of counts m first count _ (λ n q o. go n o)
@@ -123,8 +122,8 @@ protected_slots_stay counts m first count perm = counts_stay slot_of counts m fi
     go n None = refl
     go n (Some (Anon p)) = refl
     go n (Some (File p file index)) = refl
-    go n (Some (Mapped p frame bytes)) = refl
-    go n (Some (Swapped p slot bytes)) = refl
+    go n (Some (Mapped p came frame bytes)) = refl
+    go n (Some (Swapped p came slot bytes)) = refl
 
 -- the same of both kinds
 pub all_followed : (counts : Counts) (cells : AddressSpace) → Follow counts counts cells cells

@@ -17,4 +17,8 @@ pub mod Keys
 pub mod FirstPages
 pub mod Swaps
 pub mod Swapped
-pub mod NewTables
+pub mod Copied
+pub mod Resized
+pub mod Placed
+pub mod Relocated
+pub mod Listed

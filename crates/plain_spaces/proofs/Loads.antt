@@ -20,10 +20,10 @@ use Rattle.plain_spaces.proofs.Reach.{one_or_two, here_first, here_last}
 -- a page with 4,096 bytes of its own has these as its contents
 own_bytes : (files : List (List ℕ)) (o : Option Cell) → length (bytes_of o) ≡ 4096 → option_map_or (contents files) o [] ≡ bytes_of o
 own_bytes files None e = refl
-own_bytes files (Some (Mapped perm frame bytes)) e = refl
+own_bytes files (Some (Mapped perm origin frame bytes)) e = refl
 own_bytes files (Some (Anon perm)) e = absurd (omega (arith, e))
 own_bytes files (Some (File perm file index)) e = absurd (omega (arith, e))
-own_bytes files (Some (Swapped perm slot bytes)) e = absurd (omega (arith, e))
+own_bytes files (Some (Swapped perm origin slot bytes)) e = absurd (omega (arith, e))
 
 module _ (files : List (List ℕ)) (cells : AddressSpace) (a : Access) (some : 0 < a.len) (few : a.len ≤ 4096) (resident : IsResident cells a) where
   abbrev of_page : ℕ → List ℕ

@@ -1,12 +1,11 @@
 -- What a page that is looked at refuses.
-use Rattle.std.proofs.Common.{◌≡◌, ℕ, ◌+◌, ◌*◌, Bool, true, false, cond, ◌&&◌, List, length, refl, ap, ◌∙◌, arith}
+use Rattle.std.proofs.Common.{◌≡◌, ℕ, ◌+◌, ◌*◌, Bool, false, cond, ◌&&◌, List, length, refl, ap, arith}
 use Rattle.std.specs.Prelude.{Option, Some, None, is_none, nat_le}
 use Rattle.corten_base.specs.declared.calls.Backing.{Backing}
 use Rattle.corten_base.specs.declared.calls.Backing.TheVariants as backing
-use Rattle.corten_base.specs.declared.calls.Reply.{Reply}
 use Rattle.corten_base.specs.declared.calls.Reply.TheVariants as reply
 use Rattle.corten_base.specs.declared.permissions.Perm.{Perm}
-use Rattle.page_map.specs.Cell.{can_read, can_write, contents, file_bytes, file_page, is_past_end, zeros}
+use Rattle.page_map.specs.Cell.{can_read, can_write, contents, file_bytes, file_page, is_past_end}
 use Rattle.page_map.specs.Access.{refused_at}
 use Rattle.page_map.specs.Mapping.{backed}
 use Rattle.page_runs.specs.declared.mark.Mark.{Mark}
@@ -25,13 +24,13 @@ module _ (files : List (List ℕ)) where
       same : (n : ℕ) → n + 0 ≡ n
       same n = omega arith
 
-  past_numbered : (perm : Perm) (number : Number) (bytes : List ℕ) → is_past_end files (numbered perm number bytes) ≡ false
-  past_numbered perm (Frame frame) bytes = refl
-  past_numbered perm (Slot slot) bytes = refl
+  past_numbered : (perm : Perm) (origin : Backing) (number : Number) (bytes : List ℕ) → is_past_end files (numbered perm origin number bytes) ≡ false
+  past_numbered perm origin (Frame frame) bytes = refl
+  past_numbered perm origin (Slot slot) bytes = refl
 
   past_seen : (mark : Mark) (held : Option HeldPage) → is_past_end files (cell_of mark held) ≡ (is_none held && lies_past files mark.backing)
   past_seen mark None = past_backed mark.backing mark.perm
-  past_seen mark (Some held) = past_numbered mark.perm held.number held.bytes
+  past_seen mark (Some held) = past_numbered mark.perm mark.backing held.number held.bytes
 
   pub refused_seen : (write : Bool) (page : ℕ) (mark : Mark) (held : Option HeldPage) →
       refused_at files write page (Some (cell_of mark held))
@@ -52,6 +51,6 @@ module _ (files : List (List ℕ)) where
   pub bytes_held : (mark : Mark) (held : HeldPage) → held.bytes ≡ contents files (cell_of mark (Some held))
   bytes_held mark held = go held.number
     where
-      go : (number : Number) → held.bytes ≡ contents files (numbered mark.perm number held.bytes)
+      go : (number : Number) → held.bytes ≡ contents files (numbered mark.perm mark.backing number held.bytes)
       go (Frame frame) = refl
       go (Slot slot) = refl

@@ -14,14 +14,14 @@ use Rattle.corten_base.specs.Bytes.{bytes_after_write}
 use Rattle.page_map.specs.declared.cell.Cell.{Cell}
 use Rattle.page_map.specs.declared.cell.Cell.TheVariants.{Anon, File, Mapped, Swapped}
 use Rattle.page_map.specs.Change.{change, set_at}
-use Rattle.page_map.specs.Cell.{perm_of, frame_of, slot_of, contents, written}
+use Rattle.page_map.specs.Cell.{backing_of, perm_of, frame_of, slot_of, contents, written}
 use Rattle.page_map.specs.State.{AddressSpace}
 use Rattle.page_map.specs.Takes.{Grant, granted}
 use Rattle.page_map.specs.Access.{Access, first_page, page_count, touched, after_access, loaded}
 use Rattle.page_map.proofs.Range.{inside, get-change, change_more, change_none}
 use Rattle.page_map.proofs.Bytes.{written_nothing}
 use Rattle.plain_counts.specs.declared.counts.Counts.{Counts}
-use Rattle.plain_counts.specs.Counts.{carried, one_at, Follows, Follow}
+use Rattle.plain_counts.specs.Counts.{carried, one_at, Follow}
 use Rattle.space_cells.specs.Cells.{bytes_of}
 use Rattle.plain_spaces.specs.Reach.{last_page, making, given, brought, stored_at, IsWhole, IsResident}
 use Rattle.plain_spaces.proofs.Reach.{one_or_two}
@@ -107,7 +107,7 @@ module _ (files : List (List ℕ)) (cells : AddressSpace) (a : Access) (grants :
   pub brought_after : a.stored ≡ [] → brought files grants a cells ≡ after_access files grants a cells
   unfolding after_access
   brought_after none = λ i. change cells (first_page a) (page_count a) (λ page. option_map (λ cell.
-      Mapped (perm_of cell) (unwrap_or (granted grants page) (unwrap_or (frame_of cell) 0)) (sym (ap (λ s. written a.at s page (contents files cell)) none ∙ written_nothing a.at page (contents files cell)) i)))
+      Mapped (perm_of cell) (backing_of cell) (unwrap_or (granted grants page) (unwrap_or (frame_of cell) 0)) (sym (ap (λ s. written a.at s page (contents files cell)) none ∙ written_nothing a.at page (contents files cell)) i)))
 
 -- what falls into a page, between what stands before it and after it
 overwritten_is : (at q : ℕ) (bytes old : List ℕ) → at < 4096 * q + 4096 → 4096 * q < at + length bytes → length old ≡ 4096 →
@@ -136,7 +136,7 @@ stored_after files cells a bytes grants some few long whole =
     each : (q : ℕ) → within (first_page a) (page_count a) q ≡ true → (o : Option Cell) → get cells q ≡ o →
         option_map (stored_at a.at bytes q) (option_map (given files (granted grants q)) o) ≡ option_map (touched files grants (making a bytes) q) o
     each q w None e = refl
-    each q w (Some cell) e = ap (λ b. Some (Mapped (perm_of cell) (unwrap_or (granted grants q) (unwrap_or (frame_of cell) 0)) b))
+    each q w (Some cell) e = ap (λ b. Some (Mapped (perm_of cell) (backing_of cell) (unwrap_or (granted grants q) (unwrap_or (frame_of cell) 0)) b))
         (overwritten_is a.at q bytes (contents files cell) (touched_low a some few q w) (omega (arith, touched_high a some few q w, long)) (whole q cell e))
 
 -- Cells that carry the same numbers count alike.
@@ -164,14 +164,14 @@ module _ (number_of : Cell → Option ℕ) (n : ℕ) (f : ℕ → Cell → Cell)
 stored_frame : (at : ℕ) (bytes : List ℕ) (page : ℕ) (c : Cell) → frame_of (stored_at at bytes page c) ≡ frame_of c
 stored_frame at bytes page (Anon perm) = refl
 stored_frame at bytes page (File perm file index) = refl
-stored_frame at bytes page (Mapped perm frame b) = refl
-stored_frame at bytes page (Swapped perm slot b) = refl
+stored_frame at bytes page (Mapped perm origin frame b) = refl
+stored_frame at bytes page (Swapped perm origin slot b) = refl
 
 stored_slot : (at : ℕ) (bytes : List ℕ) (page : ℕ) (c : Cell) → slot_of (stored_at at bytes page c) ≡ slot_of c
 stored_slot at bytes page (Anon perm) = refl
 stored_slot at bytes page (File perm file index) = refl
-stored_slot at bytes page (Mapped perm frame b) = refl
-stored_slot at bytes page (Swapped perm slot b) = refl
+stored_slot at bytes page (Mapped perm origin frame b) = refl
+stored_slot at bytes page (Swapped perm origin slot b) = refl
 
 -- and the counts follow
 pub stored_follow : (at : ℕ) (bytes : List ℕ) (before cells : AddressSpace) (first count : ℕ) (old new : Counts) → Follow old new before cells →

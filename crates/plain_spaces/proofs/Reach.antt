@@ -1,19 +1,17 @@
 -- The pages of an access: one, or two that follow one another.
-use Rattle.std.proofs.Common.{◌≡◌, ℕ, zero, suc, ◌+◌, ◌*◌, ◌^◌, ◌<◌, ◌≤◌, Bool, true, false, cond, not, List, [], ◌++◌, length, take, drop, refl, sym, ap, ◌∙◌, arith}
+use Rattle.std.proofs.Common.{◌≡◌, ℕ, suc, ◌+◌, ◌*◌, ◌<◌, ◌≤◌, Bool, true, false, cond, not, refl, sym, ap, ◌∙◌, arith}
 use Rattle.std.specs.Prelude.{Option, Some, None}
 use Rattle.std.specs.Option.{option_map, option_or}
 use mathlib.Core.Logic.{◌⊎◌, inl, inr}
 use Rattle.std.proofs.lemmas.Bool.{cases_eq, le-leb, lt-ltb, and_from}
-use Rattle.std.proofs.lemmas.List.{take_all, drop_all}
 use Rattle.corten_base.specs.Bytes as body
 use Rattle.corten_base.specs.declared.calls.Reply.TheVariants as reply
 use Rattle.table_place.specs.Place.{is_user_page}
 use Rattle.table_place.specs.Range.{within}
 use Rattle.page_map.specs.Change.{earliest}
-use Rattle.page_map.specs.Cell.{zeros, file_page, file_bytes}
+use Rattle.page_map.specs.Cell.{zeros}
 use Rattle.page_map.specs.Access.{Access, first_page, page_count, outside_user_pages}
-use Rattle.page_map.proofs.Bytes.{length_zeros}
-use Rattle.plain_spaces.specs.Reach.{last_page, IsUserAccess}
+use Rattle.plain_spaces.specs.Reach.{last_page}
 
 -- the answer of the first number of a range, or else those of the others
 earliest_more : {B : Type 0} (first n : ℕ) (answer : ℕ → Option B) → earliest first (suc n) answer ≡ option_or (answer first) (earliest (first + 1) n answer)
@@ -61,41 +59,34 @@ module _ (a : Access) (some : 0 < a.len) (few : a.len ≤ 4096) where
       go (inl e) = and_from _ _ (le-leb (first_page a) (last_page a) (omega (arith, e.0))) (lt-ltb (last_page a) (first_page a + page_count a) (omega (arith, e.0, e.1)))
       go (inr e) = and_from _ _ (le-leb (first_page a) (last_page a) (omega (arith, e.0))) (lt-ltb (last_page a) (first_page a + page_count a) (omega (arith, e.0, e.1)))
 
-  abbrev not_user : ℕ → Option ℕ
-  not_user page = cond (not (is_user_page 4 page)) (Some page) None
+  abbrev not_user : ℕ → ℕ → Option ℕ
+  not_user levels page = cond (not (is_user_page levels page)) (Some page) None
 
-  pub outside_first : is_user_page 4 (first_page a) ≡ false → outside_user_pages 4 a ≡ Some (reply.Segv (4096 * first_page a))
-  outside_first h = go one_or_two
+  pub outside_first : (levels : ℕ) → is_user_page levels (first_page a) ≡ false → outside_user_pages levels a ≡ Some (reply.Segv (4096 * first_page a))
+  outside_first levels h = go one_or_two
     where
-      go : ((last_page a ≡ first_page a) × (page_count a ≡ 1)) ⊎ ((last_page a ≡ first_page a + 1) × (page_count a ≡ 2)) → outside_user_pages 4 a ≡ Some (reply.Segv (4096 * first_page a))
-      go (inl e) = ap (λ n. option_map (λ page. reply.Segv (4096 * page)) (earliest (first_page a) n not_user)) e.1
-          ∙ ap (option_map (λ page. reply.Segv (4096 * page))) (earliest_one (first_page a) not_user ∙ ap (λ b. cond (not b) (Some (first_page a)) None) h)
-      go (inr e) = ap (λ n. option_map (λ page. reply.Segv (4096 * page)) (earliest (first_page a) n not_user)) e.1
-          ∙ ap (option_map (λ page. reply.Segv (4096 * page))) (earliest_two (first_page a) not_user ∙ ap (λ b. option_or (cond (not b) (Some (first_page a)) None) (not_user (first_page a + 1))) h)
+      go : ((last_page a ≡ first_page a) × (page_count a ≡ 1)) ⊎ ((last_page a ≡ first_page a + 1) × (page_count a ≡ 2)) → outside_user_pages levels a ≡ Some (reply.Segv (4096 * first_page a))
+      go (inl e) = ap (λ n. option_map (λ page. reply.Segv (4096 * page)) (earliest (first_page a) n (not_user levels))) e.1
+          ∙ ap (option_map (λ page. reply.Segv (4096 * page))) (earliest_one (first_page a) (not_user levels) ∙ ap (λ b. cond (not b) (Some (first_page a)) None) h)
+      go (inr e) = ap (λ n. option_map (λ page. reply.Segv (4096 * page)) (earliest (first_page a) n (not_user levels))) e.1
+          ∙ ap (option_map (λ page. reply.Segv (4096 * page))) (earliest_two (first_page a) (not_user levels) ∙ ap (λ b. option_or (cond (not b) (Some (first_page a)) None) (not_user levels (first_page a + 1))) h)
 
-  pub outside_last : is_user_page 4 (first_page a) ≡ true → (b : Bool) → is_user_page 4 (last_page a) ≡ b → outside_user_pages 4 a ≡ cond b None (Some (reply.Segv (4096 * last_page a)))
-  outside_last h b l = go one_or_two
+  pub outside_last : (levels : ℕ) → is_user_page levels (first_page a) ≡ true → (b : Bool) → is_user_page levels (last_page a) ≡ b → outside_user_pages levels a ≡ cond b None (Some (reply.Segv (4096 * last_page a)))
+  outside_last levels h b l = go one_or_two
     where
       answer : (b : Bool) (page : ℕ) → option_map (λ page. reply.Segv (4096 * page)) (cond (not b) (Some page) None) ≡ cond b None (Some (reply.Segv (4096 * page)))
       answer true page = refl
       answer false page = refl
 
-      go : ((last_page a ≡ first_page a) × (page_count a ≡ 1)) ⊎ ((last_page a ≡ first_page a + 1) × (page_count a ≡ 2)) → outside_user_pages 4 a ≡ cond b None (Some (reply.Segv (4096 * last_page a)))
+      go : ((last_page a ≡ first_page a) × (page_count a ≡ 1)) ⊎ ((last_page a ≡ first_page a + 1) × (page_count a ≡ 2)) → outside_user_pages levels a ≡ cond b None (Some (reply.Segv (4096 * last_page a)))
       go (inl e) =
-          ap (λ n. option_map (λ page. reply.Segv (4096 * page)) (earliest (first_page a) n not_user)) e.1
-          ∙ ap (option_map (λ page. reply.Segv (4096 * page))) (earliest_one (first_page a) not_user ∙ ap not_user (sym e.0) ∙ ap (λ b. cond (not b) (Some (last_page a)) None) l)
+          ap (λ n. option_map (λ page. reply.Segv (4096 * page)) (earliest (first_page a) n (not_user levels))) e.1
+          ∙ ap (option_map (λ page. reply.Segv (4096 * page))) (earliest_one (first_page a) (not_user levels) ∙ ap (not_user levels) (sym e.0) ∙ ap (λ b. cond (not b) (Some (last_page a)) None) l)
           ∙ answer b (last_page a)
       go (inr e) =
-          ap (λ n. option_map (λ page. reply.Segv (4096 * page)) (earliest (first_page a) n not_user)) e.1
-          ∙ ap (option_map (λ page. reply.Segv (4096 * page))) (earliest_two (first_page a) not_user ∙ (λ i. option_or (cond (not (h i)) (Some (first_page a)) None) (not_user (sym e.0 i))) ∙ ap (λ b. cond (not b) (Some (last_page a)) None) l)
+          ap (λ n. option_map (λ page. reply.Segv (4096 * page)) (earliest (first_page a) n (not_user levels))) e.1
+          ∙ ap (option_map (λ page. reply.Segv (4096 * page))) (earliest_two (first_page a) (not_user levels) ∙ (λ i. option_or (cond (not (h i)) (Some (first_page a)) None) (not_user levels (sym e.0 i))) ∙ ap (λ b. cond (not b) (Some (last_page a)) None) l)
           ∙ answer b (last_page a)
-
-  user : (page : ℕ) → 16 ≤ page → page + 1 < 2 ^ 35 → is_user_page 4 page ≡ true
-  user page low high = and_from _ _ (le-leb 16 page low) (lt-ltb (page + 1) (2 ^ 35) high)
-
--- an access of user pages alone is not refused for its pages' numbers
-pub user_access : (a : Access) → IsUserAccess a → outside_user_pages 4 a ≡ None
-user_access a u = outside_last a u.some u.few (user a u.some u.few (first_page a) u.low (omega (arith, u.high, u.some))) true (user a u.some u.few (last_page a) (omega (arith, u.low, u.some)) u.high)
 
 -- the zeros of a new page body are those of the definitions
 pub same_zeros : body.zeros ≡ zeros

@@ -1,6 +1,6 @@
 -- The numbers of the cells of a range, which their keys leave or share.
-use Rattle.std.proofs.Common.{◌≡◌, ℕ, zero, suc, ◌+◌, ◌-◌, ◌^◌, ◌<◌, ◌≤◌, Bool, true, false, cond, List, [], ◌∷◌, length, drop, get_or, refl, sym, ap, subst, ◌∙◌, arith}
-use Rattle.std.specs.Prelude.{Option, Some, None, nat_eq, map, slice_index}
+use Rattle.std.proofs.Common.{◌≡◌, ℕ, zero, suc, ◌+◌, ◌-◌, ◌<◌, ◌≤◌, Bool, true, false, cond, List, [], ◌∷◌, length, drop, get_or, refl, sym, ap, ◌∙◌, arith}
+use Rattle.std.specs.Prelude.{Option, Some, None, map, slice_index}
 use Rattle.std.specs.List.{count_by, cons_option}
 use Rattle.std.specs.Option.{option_map, option_map_or, option_and_then}
 use Rattle.std.specs.Ordering.{nat_cmp}
@@ -12,7 +12,8 @@ use Rattle.std.specs.FinMap.{get, get-empty, same_map, nat_cmp-IsAntisymmetric}
 use Rattle.table_place.specs.Range.{within}
 use Rattle.page_map.specs.declared.cell.Cell.{Cell}
 use Rattle.page_map.specs.declared.cell.Cell.TheVariants.{Anon, File, Mapped, Swapped}
-use Rattle.page_map.specs.Cell.{frame_of, slot_of, with_perm}
+use Rattle.page_map.specs.Cell.{backing_of, frame_of, goes_on, perm_of, slot_of, with_perm}
+use Rattle.page_map.specs.DontNeed.{given_back}
 use Rattle.page_map.specs.Change.{change, set_at}
 use Rattle.page_map.specs.Mapping.{backed}
 use Rattle.corten_base.specs.declared.calls.Backing.{Backing}
@@ -34,7 +35,7 @@ use Rattle.plain_spaces.specs.Copies.{AreRoomy, JoinAll}
 use Rattle.plain_spaces.specs.Numbers.{frame_in, slot_in, times, AreCarried, IsCarried, Join, Leave, LeaveAll, MayShare}
 use Rattle.plain_spaces.proofs.Followed.{carried_at, carried_set_at, same_carried}
 use Rattle.plain_spaces.proofs.Held.{IsNextHeld}
-use Rattle.plain_spaces.proofs.Taken.{AreSums, left_sums}
+use Rattle.plain_spaces.proofs.Taken.{left_sums}
 
 pub nothing_carried : (cell_number : Cell → Option ℕ) (n : ℕ) → carried cell_number n fin.empty ≡ 0
 nothing_carried cell_number n = ap (λ es. count_by (carries cell_number n) (map (λ e. e.1) es)) (entries_empty nat_cmp)
@@ -47,7 +48,7 @@ module _ (kind : Number → Option ℕ) (cells : AddressSpace) (n : ℕ) where
   unfoldable pub in_range : ℕ → ℕ → ℕ
   in_range first count = times kind (numbers_in cells first count) n
 
-  none_in : (first : ℕ) → in_range first 0 ≡ 0
+  pub none_in : (first : ℕ) → in_range first 0 ≡ 0
   unfolding in_range
   none_in first = refl
 
@@ -67,7 +68,7 @@ module _ (kind : Number → Option ℕ) (cells : AddressSpace) (n : ℕ) where
       let here : at_page kind cells (first + suc k) n ≡ at_page kind cells (first + 1 + k) n = ap (λ q. at_page kind cells q n) (omega arith) in
       omega (arith, front first (suc k), front first k, more k (first + 1), here)
 
-  split : (b a first : ℕ) → in_range first (a + b) ≡ in_range first a + in_range (first + a) b
+  pub split : (b a first : ℕ) → in_range first (a + b) ≡ in_range first a + in_range (first + a) b
   split zero a first =
       let all : in_range first (a + 0) ≡ in_range first a = ap (in_range first) (omega arith) in
       omega (arith, all, none_in (first + a))
@@ -76,27 +77,27 @@ module _ (kind : Number → Option ℕ) (cells : AddressSpace) (n : ℕ) where
       let here : at_page kind cells (first + (a + b)) n ≡ at_page kind cells (first + a + b) n = ap (λ q. at_page kind cells q n) (omega arith) in
       omega (arith, all, here, more (a + b) first, more b (first + a), split b a first)
 
-  quiet : (k first : ℕ) → ((q : ℕ) → first ≤ q → q < first + k → number_at cells q ≡ None) → in_range first k ≡ 0
+  pub quiet : (k first : ℕ) → ((q : ℕ) → first ≤ q → q < first + k → number_at cells q ≡ None) → in_range first k ≡ 0
   quiet zero first none = none_in first
   quiet (suc k) first none =
       let here : at_page kind cells first n ≡ 0 = ap (λ o. option_map_or (λ number. one_at (kind number) n) o 0) (none first (omega arith) (omega arith)) in
       omega (arith, here, front first k, quiet k (first + 1) (λ q a b. none q (omega (arith, a)) (omega (arith, b))))
 
 -- the numbers of a kind are those of cells
-abbrev Agree : (Number → Option ℕ) → (Cell → Option ℕ) → Type 0
+abbrev pub Agree : (Number → Option ℕ) → (Cell → Option ℕ) → Type 0
 Agree kind cell_number = (c : Cell) (n : ℕ) → one_at (cell_number c) n ≡ option_map_or (λ number. one_at (kind number) n) (number_of c) 0
 
-frames_agree : Agree frame_in frame_of
+pub frames_agree : Agree frame_in frame_of
 frames_agree (Anon perm) n = refl
 frames_agree (File perm file index) n = refl
-frames_agree (Mapped perm frame bytes) n = refl
-frames_agree (Swapped perm slot bytes) n = refl
+frames_agree (Mapped perm origin frame bytes) n = refl
+frames_agree (Swapped perm origin slot bytes) n = refl
 
-slots_agree : Agree slot_in slot_of
+pub slots_agree : Agree slot_in slot_of
 slots_agree (Anon perm) n = refl
 slots_agree (File perm file index) n = refl
-slots_agree (Mapped perm frame bytes) n = refl
-slots_agree (Swapped perm slot bytes) n = refl
+slots_agree (Mapped perm origin frame bytes) n = refl
+slots_agree (Swapped perm origin slot bytes) n = refl
 
 module _ (kind : Number → Option ℕ) (cell_number : Cell → Option ℕ) (agree : Agree kind cell_number) (cells : AddressSpace) (n : ℕ) where
   same_at : (q : ℕ) → carried_at cell_number (get cells q) n ≡ at_page kind cells q n
@@ -162,6 +163,14 @@ module _ (kind : Number → Option ℕ) (cell_number : Cell → Option ℕ) (agr
       let all : in_range kind cells n 0 end ≡ in_range kind cells n 0 (next + (end - next)) = ap (in_range kind cells n 0) (omega (arith, high)) in
       let rest = quiet kind cells n (end - next) (0 + next) (λ q a b. none q (omega (arith, a)) (omega (arith, b, high))) in
       omega (arith, all, rest, whole end low, split kind cells n (end - next) next 0)
+
+-- two ranges whose pages have the same numbers, one page after the other
+module _ (kind : Number → Option ℕ) (n : ℕ) (here there : AddressSpace) where
+  pub same_in : (count first to : ℕ) → ((i : ℕ) → i < count → number_at here (first + i) ≡ number_at there (to + i)) → in_range kind here n first count ≡ in_range kind there n to count
+  same_in zero first to same = none_in kind here n first ∙ sym (none_in kind there n to)
+  same_in (suc k) first to same =
+      let last : at_page kind here (first + k) n ≡ at_page kind there (to + k) n = ap (λ o. option_map_or (λ number. one_at (kind number) n) o 0) (same k (omega arith)) in
+      omega (arith, more kind here n k first, more kind there n k to, last, same_in k first to (λ i low. same i (omega (arith, low))))
 
 one_here : (m : ℕ) → one_at (Some m) m ≡ 1
 one_here m = ap (λ b. cond b 1 0) (nat_eq_equiv.refl m)
@@ -331,6 +340,15 @@ pub no_numbers : (what : Backing) (perm : Perm) (i n : ℕ) → (carried_at fram
 no_numbers backing.Zero perm i n = (refl, refl)
 no_numbers (backing.File file index) perm i n = (refl, refl)
 
+-- the pages of a range are what they came from again
+pub range_given_back : (cells : AddressSpace) (first count : ℕ) (old new : Counts) → LeaveAll (numbers_in cells first count) old new → Follow old new cells (given_back first count cells)
+unfolding given_back
+range_given_back cells first count = range_left cells first count (λ page. option_map (λ cell. goes_on cell 0)) (λ q n o. none n o)
+  where
+    none : (n : ℕ) (o : Option Cell) → (carried_at frame_of (option_map (λ cell. goes_on cell 0) o) n ≡ 0) × (carried_at slot_of (option_map (λ cell. goes_on cell 0) o) n ≡ 0)
+    none n None = (refl, refl)
+    none n (Some cell) = no_numbers (backing_of cell) (perm_of cell) 0 n
+
 -- ---- several changes
 
 module _ (kind : Number → Option ℕ) (cell_number : Cell → Option ℕ) (agree : Agree kind cell_number) (n : ℕ)
@@ -355,15 +373,15 @@ frames_stay : (n : ℕ) (perm : Perm) (o : Option Cell) → carried_at frame_of 
 frames_stay n perm None = refl
 frames_stay n perm (Some (Anon p)) = refl
 frames_stay n perm (Some (File p file index)) = refl
-frames_stay n perm (Some (Mapped p frame bytes)) = refl
-frames_stay n perm (Some (Swapped p slot bytes)) = refl
+frames_stay n perm (Some (Mapped p came frame bytes)) = refl
+frames_stay n perm (Some (Swapped p came slot bytes)) = refl
 
 slots_stay : (n : ℕ) (perm : Perm) (o : Option Cell) → carried_at slot_of (option_map (with_perm perm) o) n ≡ carried_at slot_of o n
 slots_stay n perm None = refl
 slots_stay n perm (Some (Anon p)) = refl
 slots_stay n perm (Some (File p file index)) = refl
-slots_stay n perm (Some (Mapped p frame bytes)) = refl
-slots_stay n perm (Some (Swapped p slot bytes)) = refl
+slots_stay n perm (Some (Mapped p came frame bytes)) = refl
+slots_stay n perm (Some (Swapped p came slot bytes)) = refl
 
 module _ (cells : AddressSpace) (changes : List Change) where
   frames_gone : (n : ℕ) → carried frame_of n (cells_after_all cells changes) + times frame_in (all_released cells changes) n ≡ carried frame_of n cells

@@ -1,14 +1,13 @@
 -- One page more that moves to swap or back.
-use Rattle.std.proofs.Common.{◌≡◌, ℕ, suc, ◌+◌, ◌-◌, ◌<◌, ◌≤◌, Bool, true, false, cond, List, [], ◌∷◌, length, refl, sym, ap, subst, ◌∙◌, arith}
+use Rattle.std.proofs.Common.{◌≡◌, ℕ, suc, ◌+◌, ◌-◌, ◌<◌, ◌≤◌, Bool, true, false, cond, List, ◌∷◌, length, refl, sym, ap, subst, ◌∙◌, arith}
 use mathlib.Core.Bool.{true≢false}
-use mathlib.Core.Logic.{◌⊎◌, inl, inr}
-use Rattle.std.specs.Prelude.{Option, Some, None, IfSome, nat_eq, slice_index}
+use mathlib.Core.Logic.{inl, inr}
+use Rattle.std.specs.Prelude.{Option, Some, None, nat_eq, slice_index}
 use Rattle.std.specs.Option.{option_map, option_map_or}
-use Rattle.std.specs.Ordering.{nat_cmp}
 use Rattle.std.specs.Cmp.{nat_eq_equiv}
 use Rattle.std.proofs.lemmas.Bool.{cases_eq, eqb-true, ne_eqb}
 use Rattle.std.specs.FinMap as fin
-use Rattle.std.specs.FinMap.{FinMap, get}
+use Rattle.std.specs.FinMap.{get}
 use Rattle.page_map.specs.declared.cell.Cell.{Cell}
 use Rattle.page_map.specs.declared.cell.Cell.TheVariants.{Anon, File, Mapped, Swapped}
 use Rattle.page_map.specs.Change.{keys_in, change, set_at}
@@ -22,12 +21,12 @@ use Rattle.page_map.proofs.Owners.{two_weights, same_some}
 use Rattle.page_map.proofs.Steps.{not_none}
 use Rattle.plain_counts.specs.Owners.{unused_of}
 use Rattle.plain_counts.specs.declared.counts.Counts.{Counts}
-use Rattle.plain_counts.specs.Counts.{carried, one_at, AreCounted, IsCounted, Leaves, Follows, Follow}
+use Rattle.plain_counts.specs.Counts.{carried, one_at, AreCounted, Leaves, Follows, Follow}
 use Rattle.space_cells.specs.declared.held.Number.{Number}
 use Rattle.space_cells.specs.declared.held.Number.TheVariants.{Frame, Slot}
 use Rattle.space_cells.specs.Cells.{number_of, number_at, renumbered}
 use Rattle.plain_spaces.specs.Numbers.{IsCarried, Leave}
-use Rattle.plain_spaces.specs.Swapping.{moves, passes, to, numbered, gets_of, loses_of, taken, left, Takes, TakesNumber, Moves, Stays, Settles, SwapsAt, MovesAt}
+use Rattle.plain_spaces.specs.Swapping.{moves, passes, to, gets_of, loses_of, taken, left, Takes, TakesNumber, Moves, Stays, Settles, SwapsAt, MovesAt}
 use Rattle.plain_spaces.specs.declared.swap.Move.{Move}
 use Rattle.plain_spaces.specs.declared.swap.Move.TheVariants.{Out, In}
 use Rattle.plain_spaces.proofs.Moves.{change_one, put_back, counts_once, carried_insert}
@@ -148,15 +147,15 @@ out_alike : (page : ℕ) (cells cells' : AddressSpace) (counts counts' : Counts)
     (q : ℕ) (c : Cell) → page < q → get cells q ≡ Some c → passes Out counts' c ≡ passes Out counts c
 out_alike page cells cells' counts counts' counted s q (Anon perm) after there = refl
 out_alike page cells cells' counts counts' counted s q (File perm file index) after there = refl
-out_alike page cells cells' counts counts' counted s q (Swapped perm slot bytes) after there = refl
-out_alike page cells cells' counts counts' counted s q (Mapped perm frame bytes) after there = ap (λ n. nat_eq n 1) (go (passes Out counts s.cell) refl s.settles)
+out_alike page cells cells' counts counts' counted s q (Swapped perm origin slot bytes) after there = refl
+out_alike page cells cells' counts counts' counted s q (Mapped perm origin frame bytes) after there = ap (λ n. nat_eq n 1) (go (passes Out counts s.cell) refl s.settles)
   where
     apart : (c : Cell) → get cells page ≡ Some c → passes Out counts c ≡ true → one_at (frame_of c) frame ≡ 0
     apart (Anon p) here e = refl
     apart (File p file index) here e = refl
-    apart (Swapped p slot b) here e = refl
-    apart (Mapped p own b) here e = elim (cases_eq own frame) [
-      | inl same ↦ absurd (omega (arith, two_carry frame_of frame cells page q (Mapped p own b) (Mapped perm frame bytes) here there (ap Some same) refl after, counted.frames.each frame, ap (slice_index counts.frames) (sym same), eqb-true (slice_index counts.frames own) 1 e))
+    apart (Swapped p came slot b) here e = refl
+    apart (Mapped p came own b) here e = elim (cases_eq own frame) [
+      | inl same ↦ absurd (omega (arith, two_carry frame_of frame cells page q (Mapped p came own b) (Mapped perm origin frame bytes) here there (ap Some same) refl after, counted.frames.each frame, ap (slice_index counts.frames) (sym same), eqb-true (slice_index counts.frames own) 1 e))
       | inr other ↦ ap (λ b. cond b 1 0) (ne_eqb own frame other)
     ]
 
@@ -167,8 +166,8 @@ out_alike page cells cells' counts counts' counted s q (Mapped perm frame bytes)
 in_alike : (counts counts' : Counts) (c : Cell) → passes In counts' c ≡ passes In counts c
 in_alike counts counts' (Anon perm) = refl
 in_alike counts counts' (File perm file index) = refl
-in_alike counts counts' (Mapped perm frame bytes) = refl
-in_alike counts counts' (Swapped perm slot bytes) = refl
+in_alike counts counts' (Mapped perm origin frame bytes) = refl
+in_alike counts counts' (Swapped perm origin slot bytes) = refl
 
 pub alike : (way : Move) (page : ℕ) (cells cells' : AddressSpace) (counts counts' : Counts) → AreCounted counts cells → MovesAt way page cells cells' counts counts' →
     (q : ℕ) (c : Cell) → page < q → get cells q ≡ Some c → passes way counts' c ≡ passes way counts c
@@ -203,14 +202,14 @@ module _ (to : ℕ → Cell → Cell) (taken_of left_of : Cell → Option ℕ) (
           (λ n. omega (arith, m.leaves.counts n, ap (λ o. one_at o n) (ap left_of m.moved ∙ (gets m.number s.cell e).2)))
 
 gets : (way : Move) (counts : Counts) (n : ℕ) (c : Cell) → passes way counts c ≡ true → (gets_of way c ≡ None) × (gets_of way (to way n c) ≡ Some n) × (loses_of way (to way n c) ≡ None)
-gets Out counts n (Mapped perm frame bytes) e = (refl, refl, refl)
+gets Out counts n (Mapped perm origin frame bytes) e = (refl, refl, refl)
 gets Out counts n (Anon perm) e = absurd (true≢false (sym e))
 gets Out counts n (File perm file index) e = absurd (true≢false (sym e))
-gets Out counts n (Swapped perm slot bytes) e = absurd (true≢false (sym e))
-gets In counts n (Swapped perm slot bytes) e = (refl, refl, refl)
+gets Out counts n (Swapped perm origin slot bytes) e = absurd (true≢false (sym e))
+gets In counts n (Swapped perm origin slot bytes) e = (refl, refl, refl)
 gets In counts n (Anon perm) e = absurd (true≢false (sym e))
 gets In counts n (File perm file index) e = absurd (true≢false (sym e))
-gets In counts n (Mapped perm frame bytes) e = absurd (true≢false (sym e))
+gets In counts n (Mapped perm origin frame bytes) e = absurd (true≢false (sym e))
 
 pub moves_follow : (way : Move) (page : ℕ) (cells cells' : AddressSpace) (counts counts' : Counts) → MovesAt way page cells cells' counts counts' → Follow counts counts' cells cells'
 moves_follow Out page cells cells' counts counts' s = record {
@@ -227,15 +226,15 @@ moves_follow In page cells cells' counts counts' s = record {
 -- a page that moves
 pub moved_page : (way : Move) (cells cells' : AddressSpace) (page : ℕ) (cell : Cell) (number new : Number) (a b c : Counts) → get cells page ≡ Some cell → number_of cell ≡ Some number → moves way a number ≡ true →
     TakesNumber way new a b → Leave number b c → cells' ≡ change cells page 1 (λ _. option_map (renumbered new)) → MovesAt way page cells cells' a c
-moved_page Out cells cells' page (Mapped perm own bytes) (Frame f) new a b c here is goes takes leaves changed =
+moved_page Out cells cells' page (Mapped perm origin own bytes) (Frame f) new a b c here is goes takes leaves changed =
     let same : own ≡ f = go own (same_some is) in
     record {
-      cell = Mapped perm own bytes;
-      after = Swapped perm takes.value bytes;
+      cell = Mapped perm origin own bytes;
+      after = Swapped perm origin takes.value bytes;
       here = here;
       cells_are = changed ∙ change_one cells page (λ _. option_map (renumbered new)) ∙ ap (λ o. set_at cells page (option_map (renumbered new) o)) here
-          ∙ ap (λ n. fin.insert cells page (renumbered n (Mapped perm own bytes))) takes.number_is;
-      settles = subst (λ t. Settles out_to frame_of t (Mapped perm own bytes) (Swapped perm takes.value bytes) a.slots c.slots a.frames c.frames) (sym (ap (λ n. nat_eq (slice_index a.frames n) 1) same ∙ goes))
+          ∙ ap (λ n. fin.insert cells page (renumbered n (Mapped perm origin own bytes))) takes.number_is;
+      settles = subst (λ t. Settles out_to frame_of t (Mapped perm origin own bytes) (Swapped perm origin takes.value bytes) a.slots c.slots a.frames c.frames) (sym (ap (λ n. nat_eq (slice_index a.frames n) 1) same ∙ goes))
           (record {
             number = takes.value;
             takes = subst (Takes takes.value a.slots) (sym leaves.1) takes.takes;
@@ -246,14 +245,14 @@ moved_page Out cells cells' page (Mapped perm own bytes) (Frame f) new a b c her
   where
     go : (n : ℕ) → Frame n ≡ Frame f → n ≡ f
     go n e = cc
-moved_page In cells cells' page (Swapped perm own bytes) (Slot s) new a b c here is goes takes leaves changed =
+moved_page In cells cells' page (Swapped perm origin own bytes) (Slot s) new a b c here is goes takes leaves changed =
     let same : own ≡ s = go own (same_some is) in
     record {
-      cell = Swapped perm own bytes;
-      after = Mapped perm takes.value bytes;
+      cell = Swapped perm origin own bytes;
+      after = Mapped perm origin takes.value bytes;
       here = here;
       cells_are = changed ∙ change_one cells page (λ _. option_map (renumbered new)) ∙ ap (λ o. set_at cells page (option_map (renumbered new) o)) here
-          ∙ ap (λ n. fin.insert cells page (renumbered n (Swapped perm own bytes))) takes.number_is;
+          ∙ ap (λ n. fin.insert cells page (renumbered n (Swapped perm origin own bytes))) takes.number_is;
       settles = record {
         number = takes.value;
         takes = subst (Takes takes.value a.frames) (sym leaves.1) takes.takes;
@@ -264,20 +263,20 @@ moved_page In cells cells' page (Swapped perm own bytes) (Slot s) new a b c here
   where
     go : (n : ℕ) → Slot n ≡ Slot s → n ≡ s
     go n e = cc
-moved_page Out cells cells' page (Mapped perm own bytes) (Slot s) new a b c here is goes takes leaves changed = absurd (true≢false (sym goes))
-moved_page Out cells cells' page (Swapped perm own bytes) (Slot s) new a b c here is goes takes leaves changed = absurd (true≢false (sym goes))
-moved_page Out cells cells' page (Swapped perm own bytes) (Frame f) new a b c here is goes takes leaves changed = absurd (no (same_some is))
+moved_page Out cells cells' page (Mapped perm origin own bytes) (Slot s) new a b c here is goes takes leaves changed = absurd (true≢false (sym goes))
+moved_page Out cells cells' page (Swapped perm origin own bytes) (Slot s) new a b c here is goes takes leaves changed = absurd (true≢false (sym goes))
+moved_page Out cells cells' page (Swapped perm origin own bytes) (Frame f) new a b c here is goes takes leaves changed = absurd (no (same_some is))
   where
     no : Slot own ≡ Frame f → ⊥
     no e = cc
 moved_page Out cells cells' page (Anon perm) number new a b c here is goes takes leaves changed = absurd (not_none (sym is))
 moved_page Out cells cells' page (File perm file index) number new a b c here is goes takes leaves changed = absurd (not_none (sym is))
-moved_page In cells cells' page (Mapped perm own bytes) (Slot s) new a b c here is goes takes leaves changed = absurd (no (same_some is))
+moved_page In cells cells' page (Mapped perm origin own bytes) (Slot s) new a b c here is goes takes leaves changed = absurd (no (same_some is))
   where
     no : Frame own ≡ Slot s → ⊥
     no e = cc
-moved_page In cells cells' page (Mapped perm own bytes) (Frame f) new a b c here is goes takes leaves changed = absurd (true≢false (sym goes))
-moved_page In cells cells' page (Swapped perm own bytes) (Frame f) new a b c here is goes takes leaves changed = absurd (true≢false (sym goes))
+moved_page In cells cells' page (Mapped perm origin own bytes) (Frame f) new a b c here is goes takes leaves changed = absurd (true≢false (sym goes))
+moved_page In cells cells' page (Swapped perm origin own bytes) (Frame f) new a b c here is goes takes leaves changed = absurd (true≢false (sym goes))
 moved_page In cells cells' page (Anon perm) number new a b c here is goes takes leaves changed = absurd (not_none (sym is))
 moved_page In cells cells' page (File perm file index) number new a b c here is goes takes leaves changed = absurd (not_none (sym is))
 
@@ -295,8 +294,8 @@ stayed_page way cells page cell number counts here is stays = record {
 
 -- the number of a page is carried
 pub number_is_carried : (counts : Counts) (cells : AddressSpace) (page : ℕ) (cell : Cell) (number : Number) → AreCounted counts cells → get cells page ≡ Some cell → number_of cell ≡ Some number → IsCarried counts number
-number_is_carried counts cells page (Mapped perm f bytes) number ok here is = subst (IsCarried counts) (same_some is) (has_count frame_of counts.frames cells ok.frames page (Mapped perm f bytes) here)
-number_is_carried counts cells page (Swapped perm s bytes) number ok here is = subst (IsCarried counts) (same_some is) (has_count slot_of counts.slots cells ok.slots page (Swapped perm s bytes) here)
+number_is_carried counts cells page (Mapped perm origin f bytes) number ok here is = subst (IsCarried counts) (same_some is) (has_count frame_of counts.frames cells ok.frames page (Mapped perm origin f bytes) here)
+number_is_carried counts cells page (Swapped perm origin s bytes) number ok here is = subst (IsCarried counts) (same_some is) (has_count slot_of counts.slots cells ok.slots page (Swapped perm origin s bytes) here)
 number_is_carried counts cells page (Anon perm) number ok here is = absurd (not_none (sym is))
 number_is_carried counts cells page (File perm file index) number ok here is = absurd (not_none (sym is))
 

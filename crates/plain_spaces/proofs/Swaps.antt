@@ -1,18 +1,18 @@
 -- Pages that move one by one to the numbers that they get.
-use Rattle.std.proofs.Common.{◌≡◌, ℕ, ◌+◌, ◌-◌, ◌<◌, ◌≤◌, Bool, true, false, cond, List, [], ◌∷◌, length, refl, sym, ap, subst, ◌∙◌, arith}
-use Rattle.std.specs.Prelude.{Option, Some, None, IfSome, nat_eq}
+use Rattle.std.proofs.Common.{◌≡◌, ℕ, ◌+◌, ◌-◌, ◌<◌, ◌≤◌, Bool, true, false, cond, List, ◌∷◌, refl, sym, ap, ◌∙◌, arith}
+use Rattle.std.specs.Prelude.{Option, Some, None, IfSome}
 use Rattle.std.specs.Option.{option_map}
 use Rattle.std.specs.Ordering.{nat_cmp}
 use Rattle.std.specs.Cmp.{unsigned_tied, nat_eq_equiv}
 use Rattle.std.proofs.lemmas.Bool.{ne_eqb}
-use Rattle.std.specs.FinMap.{FinMap, get, find}
+use Rattle.std.specs.FinMap.{get, find}
 use Rattle.table_place.specs.Range.{within}
 use Rattle.page_map.specs.declared.cell.Cell.{Cell}
 use Rattle.page_map.specs.Change.{keys_in, change}
 use Rattle.page_map.specs.State.{AddressSpace}
 use Rattle.page_map.specs.Swap.{moved, moved_to}
 use Rattle.page_map.specs.Takes.{Grant, grant, granted}
-use Rattle.page_map.proofs.Range.{get-change, inside, outside, change_none}
+use Rattle.page_map.proofs.Range.{get-change, inside, change_none}
 use Rattle.plain_spaces.proofs.Keys.{keys_past, keys_here, key_before, keys_alike}
 use Rattle.plain_spaces.proofs.FirstPages.{change_alike, change_skip, change_front}
 

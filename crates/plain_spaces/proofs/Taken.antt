@@ -1,7 +1,7 @@
 -- Frames that the pages of an access take, and the numbers that these leave.
 use Rattle.std.proofs.Common.{◌≡◌, ℕ, ◌+◌, ◌-◌, ◌<◌, ◌≤◌, Bool, true, false, cond, not, ◌&&◌, List, length, length-set, get_or-set_same, get_or-set_other, refl, sym, ap, subst, ◌∙◌, arith}
 use mathlib.Core.Logic.{◌⊎◌, inl, inr}
-use Rattle.std.specs.Prelude.{Option, Some, None, IfSome, IfNone, IsSome, is_some, nat_eq, slice_index, slice_set}
+use Rattle.std.specs.Prelude.{Option, Some, None, IfSome, IfNone, is_some, nat_eq, slice_index, slice_set}
 use Rattle.std.specs.Option.{option_map, option_and_then}
 use Rattle.std.specs.Cmp.{nat_eq_equiv}
 use Rattle.std.proofs.lemmas.Bool.{cases_eq, ne_eqb, false≢true}
@@ -19,7 +19,7 @@ use Rattle.plain_counts.specs.declared.counts.Counts.{Counts}
 use Rattle.plain_counts.specs.Counts.{carried, one_at, AreCounted, Follow}
 use Rattle.space_cells.specs.declared.held.Number.{Number}
 use Rattle.space_cells.specs.declared.held.Number.TheVariants.{Frame, Slot}
-use Rattle.plain_spaces.specs.Numbers.{frame_in, slot_in, IsCarried, LeavesAny}
+use Rattle.plain_spaces.specs.Numbers.{frame_in, slot_in, IsCarried, LeavesAny, WasUnused}
 use Rattle.plain_spaces.specs.Reach.{last_page, beyond, given}
 use Rattle.plain_spaces.specs.Wants.{moving, want_of, from_of}
 use Rattle.plain_spaces.specs.declared.plan.Want.{Want}
@@ -48,9 +48,6 @@ takes_one old new n within none is = record {
     at m (inr apart) =
         let none : one_at (Some n) m ≡ 0 = ap (λ b. cond b 1 0) (ne_eqb n m (λ e. apart (sym e))) in
         omega (arith, get_or-set_other old n m 1 0 apart, none)
-
-abbrev pub WasUnused : List ℕ → ℕ → Type 0
-WasUnused old n = (n < length old) × (slice_index old n ≡ 0)
 
 pub taken_is : (number : Option ℕ) (old new : List ℕ) → IfSome number (WasUnused old) → IfSome number (λ n. new ≡ slice_set old n 1) → IfNone number (new ≡ old) → IsTaken number old new
 taken_is None old new unused is none = record { numbers = ap length none; counts = λ n. let same = ap (λ l. slice_index l n) none in omega (arith, same) }
@@ -114,11 +111,11 @@ Balances files want frame cell = (n : ℕ) →
     × (one_at (slot_of (given files frame cell)) n + one_at (left_in slot_in want) n ≡ one_at (slot_of cell) n)
 
 balanced : (files : List (List ℕ)) (owners : ℕ → ℕ) (write : Bool) (cell : Cell) (frame : Option ℕ) → is_some frame ≡ is_some (want_of files owners write cell) → Balances files (want_of files owners write cell) frame cell
-balanced files owners write (Mapped perm f bytes) frame e n = go (write && not (nat_eq (owners f) 1)) frame e
+balanced files owners write (Mapped perm origin f bytes) frame e n = go (write && not (nat_eq (owners f) 1)) frame e
   where
-    go : (b : Bool) (frame : Option ℕ) → is_some frame ≡ is_some (cond b (Some (moving files (Mapped perm f bytes))) None) →
-        (one_at (frame_of (given files frame (Mapped perm f bytes))) n + one_at (left_in frame_in (cond b (Some (moving files (Mapped perm f bytes))) None)) n ≡ one_at (Some f) n + one_at frame n)
-        × (0 + one_at (left_in slot_in (cond b (Some (moving files (Mapped perm f bytes))) None)) n ≡ 0)
+    go : (b : Bool) (frame : Option ℕ) → is_some frame ≡ is_some (cond b (Some (moving files (Mapped perm origin f bytes))) None) →
+        (one_at (frame_of (given files frame (Mapped perm origin f bytes))) n + one_at (left_in frame_in (cond b (Some (moving files (Mapped perm origin f bytes))) None)) n ≡ one_at (Some f) n + one_at frame n)
+        × (0 + one_at (left_in slot_in (cond b (Some (moving files (Mapped perm origin f bytes))) None)) n ≡ 0)
     go true (Some m) e = (omega arith, omega arith)
     go false None e = (omega arith, omega arith)
     go true None e = absurd (false≢true e)
@@ -127,8 +124,8 @@ balanced files owners write (Anon perm) (Some m) e n = (omega arith, omega arith
 balanced files owners write (Anon perm) None e n = absurd (false≢true e)
 balanced files owners write (File perm file index) (Some m) e n = (omega arith, omega arith)
 balanced files owners write (File perm file index) None e n = absurd (false≢true e)
-balanced files owners write (Swapped perm slot bytes) (Some m) e n = (omega arith, omega arith)
-balanced files owners write (Swapped perm slot bytes) None e n = absurd (false≢true e)
+balanced files owners write (Swapped perm origin slot bytes) (Some m) e n = (omega arith, omega arith)
+balanced files owners write (Swapped perm origin slot bytes) None e n = absurd (false≢true e)
 
 -- a page that stays on its frame
 balanced_none : (files : List (List ℕ)) (cell : Cell) → Fits files None cell → Balances files None None cell
@@ -158,18 +155,18 @@ module _ (files : List (List ℕ)) (cells : AddressSpace) (page : ℕ) (want : O
 -- the number that a page leaves is carried
 pub left_is_carried : (files : List (List ℕ)) (owners : ℕ → ℕ) (write : Bool) (cells : AddressSpace) (page : ℕ) (cell : Cell) (counts more : Counts) → get cells page ≡ Some cell → AreCounted counts cells →
     ((n : ℕ) → slice_index counts.frames n ≤ slice_index more.frames n) → ((n : ℕ) → slice_index counts.slots n ≤ slice_index more.slots n) → IfSome (from_of (want_of files owners write cell)) (IsCarried more)
-left_is_carried files owners write cells page (Mapped perm f bytes) counts more here ok frames slots = go (write && not (nat_eq (owners f) 1))
+left_is_carried files owners write cells page (Mapped perm origin f bytes) counts more here ok frames slots = go (write && not (nat_eq (owners f) 1))
   where
     some : 0 < slice_index counts.frames f
-    some = has_count frame_of counts.frames cells ok.frames page (Mapped perm f bytes) here
+    some = has_count frame_of counts.frames cells ok.frames page (Mapped perm origin f bytes) here
 
-    go : (b : Bool) → IfSome (from_of (cond b (Some (moving files (Mapped perm f bytes))) None)) (IsCarried more)
+    go : (b : Bool) → IfSome (from_of (cond b (Some (moving files (Mapped perm origin f bytes))) None)) (IsCarried more)
     go true = omega (arith, some, frames f)
     go false = tt
 left_is_carried files owners write cells page (Anon perm) counts more here ok frames slots = tt
 left_is_carried files owners write cells page (File perm file index) counts more here ok frames slots = tt
-left_is_carried files owners write cells page (Swapped perm slot bytes) counts more here ok frames slots =
-    let some : 0 < slice_index counts.slots slot = has_count slot_of counts.slots cells ok.slots page (Swapped perm slot bytes) here in
+left_is_carried files owners write cells page (Swapped perm origin slot bytes) counts more here ok frames slots =
+    let some : 0 < slice_index counts.slots slot = has_count slot_of counts.slots cells ok.slots page (Swapped perm origin slot bytes) here in
     omega (arith, some, slots slot)
 
 -- ---- both pages of an access

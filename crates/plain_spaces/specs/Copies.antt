@@ -1,25 +1,30 @@
 -- Copies of a space.
---     AreLow      all pages stand before 2 ^ 35
+--     AreLow      all pages stand before 2 ^ 44
 --     IsRoomy, AreRoomy      as many keys more as carry each number here are not too many, of one kind;  of both
 --     JoinsAll, JoinAll      counts after as many more keys carry each number as do here, of one kind;  of both
---     tables_above, new_tables      the tables above pages, as those of a space;  with its root, those of a space with these cells
---     IsNewTo      a space that has no tables
-use Rattle.std.specs.Prelude.{◌≡◌, ℕ, ◌+◌, ◌^◌, ◌<◌, true, List, ◌∷◌, length, slice_index, Option, Some}
-use Rattle.std.specs.List.{flat_map}
-use Rattle.std.specs.FinMap as map
-use Rattle.std.specs.FinSet as set
+--     is_used      whether a cell stands in the span of a table
+--     copy_of, used_copies      the same place in another space;  those of tables below the root that are above cells
+--     with_copies      some tables with those copies
+--     ArePlaces, ListsCopies      all tables have places of so many levels;  a list of the tables of a copy of a space, each once
+--     IsAt      a state that has these cells and tables
+use Rattle.std.specs.Prelude.{◌≡◌, ℕ, ◌+◌, ◌^◌, ◌<◌, Bool, true, ◌&&◌, List, length, slice_index, nat_lt, is_some, map, Option, Some}
+use Rattle.std.specs.List.{filter}
+use Rattle.std.specs.FinMap.{get}
+use Rattle.std.specs.FinSet.{contains, from_list, union}
 use Rattle.table_place.specs.declared.Place.{Place}
-use Rattle.table_place.specs.Place.{root, above}
+use Rattle.table_place.specs.Place.{is_place, span_first, span_count}
 use Rattle.page_map.specs.declared.cell.Cell.{Cell}
 use Rattle.page_map.specs.Cell.{frame_of, slot_of}
-use Rattle.page_map.specs.State.{AddressSpace}
+use Rattle.page_map.specs.Change.{least}
+use Rattle.page_map.specs.Spaces.{copied_tables}
+use Rattle.page_map.specs.State.{State, AddressSpace, IsConsistent, levels, space_at}
 use Rattle.page_map.specs.Tables.{Tables}
 use Rattle.plain_counts.specs.declared.counts.Counts.{Counts}
 use Rattle.plain_counts.specs.Counts.{carried}
-use Rattle.plain_counts.specs.Levels.{is_elsewhere}
+use Rattle.plain_counts.specs.Levels.{Lists}
 
 abbrev pub AreLow : AddressSpace → Type 0
-AreLow cells = (page : ℕ) (cell : Cell) → map.get cells page ≡ Some cell → page < 2 ^ 35
+AreLow cells = (page : ℕ) (cell : Cell) → get cells page ≡ Some cell → page < 2 ^ 44
 
 pub record IsRoomy (number_of : Cell → Option ℕ) (counts : List ℕ) (cells : AddressSpace) : Type 0 where
   pub each : (n : ℕ) → slice_index counts n + carried number_of n cells < 2 ^ 32
@@ -36,11 +41,30 @@ pub record JoinAll (old new : Counts) (cells : AddressSpace) : Type 0 where
   pub frames : JoinsAll frame_of old.frames new.frames cells
   pub slots : JoinsAll slot_of old.slots new.slots cells
 
-abbrev pub tables_above : ℕ → List ℕ → List Place
-tables_above space pages = flat_map (λ page. above 4 space page 1) pages
+abbrev pub is_used : AddressSpace → Place → Bool
+is_used cells p = is_some (least (span_first p) (span_count p) (λ page. is_some (get cells page)))
 
-abbrev pub new_tables : ℕ → AddressSpace → List Place
-new_tables space cells = root 4 space ∷ tables_above space (map.keys cells)
+-- the same place in another space
+abbrev pub copy_of : ℕ → Place → Place
+copy_of new p = record { space = new; level = p.level; prefix = p.prefix }
 
-abbrev pub IsNewTo : Tables → ℕ → Type 0
-IsNewTo tables space = (p : Place) → set.contains tables p ≡ true → is_elsewhere space p ≡ true
+-- the copies of those of some tables below the root that have a cell in their spans
+abbrev pub used_copies : ℕ → ℕ → AddressSpace → List Place → List Place
+used_copies levels new cells places = map (copy_of new) (filter (λ p. nat_lt p.level levels && is_used cells p) places)
+
+abbrev pub with_copies : ℕ → ℕ → AddressSpace → List Place → Tables → Tables
+with_copies levels new cells places tables = union tables (from_list (used_copies levels new cells places))
+
+abbrev pub ArePlaces : ℕ → Tables → Type 0
+ArePlaces levels tables = (p : Place) → contains tables p ≡ true → is_place levels p ≡ true
+
+-- a state of which a space has these cells, with these tables and so many levels
+pub record IsAt (st : State) (levels_now space : ℕ) (cells : AddressSpace) (tables : Tables) : Type 0 where
+  pub same_levels : levels st ≡ levels_now
+  pub same_cells : space_at st space ≡ cells
+  pub same_tables : st.tables ≡ tables
+
+-- the tables that page_map has of a fork, in each state of which the space has these cells
+abbrev pub ListsCopies : ℕ → ℕ → ℕ → AddressSpace → Tables → List Place → Type 0
+ListsCopies levels_now space new cells tables copies =
+    (st : State) → IsConsistent st → IsAt st levels_now space cells tables → Lists (from_list (copied_tables st space new)) copies

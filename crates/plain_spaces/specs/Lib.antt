@@ -4,3 +4,5 @@ pub mod Reach
 pub mod Wants
 pub mod Swapping
 pub mod Copies
+pub mod Resizing
+pub mod Pieces

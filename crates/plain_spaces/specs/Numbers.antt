@@ -1,11 +1,12 @@
 -- Numbers of frames and swap slots beside the counts of their owners.
 --     frame_in, slot_in      the number of a frame;  of a swap slot
 --     count_of, IsCarried, MayShare      how many keys carry it;  whether one does;  and not too many
+--     WasUnused, one_fewer      whether a number is there and no key carries it;  the counts of one kind, by one fewer at a number
 --     Leave, LeavesAny, Join      counts after one key fewer carries it;  if there is one;  after one key more does
 --     times      how often a number of a kind stands in a list
 --     AreCarried, AreLeft, LeaveAll      counts of at least as many owners as numbers of a list stand there;  and after each was left, of one kind;  of both
 --     Keeps      that nothing has changed
-use Rattle.std.specs.Prelude.{◌≡◌, ℕ, ◌+◌, ◌^◌, ◌<◌, ◌≤◌, List, length, slice_index, Option, Some, None}
+use Rattle.std.specs.Prelude.{◌≡◌, ℕ, ◌+◌, ◌-◌, ◌^◌, ◌<◌, ◌≤◌, List, length, slice_index, slice_set, Option, Some, None}
 use Rattle.std.specs.List.{sum_by}
 use Rattle.page_map.specs.State.{AddressSpace}
 use Rattle.plain_counts.specs.declared.counts.Counts.{Counts}
@@ -31,6 +32,12 @@ IsCarried counts number = 0 < count_of counts number
 pub record MayShare (counts : Counts) (number : Number) : Type 0 where
   pub carried : IsCarried counts number
   pub room : count_of counts number + 1 < 2 ^ 32
+
+abbrev pub WasUnused : List ℕ → ℕ → Type 0
+WasUnused counts n = (n < length counts) × (slice_index counts n ≡ 0)
+
+abbrev pub one_fewer : List ℕ → ℕ → List ℕ
+one_fewer counts n = slice_set counts n (slice_index counts n - 1)
 
 -- one key fewer, and the numbers of the other kind stay
 abbrev pub Leave : Number → Counts → Counts → Type 0

@@ -2,17 +2,22 @@
 --     moves, passes      whether a page of this number moves;  whether a page does
 --     to, numbered, gets_of, loses_of      the page under its new number;  that number;  the numbers of the kind that it gets;  of the kind that it loses
 --     taken, left      the counts of owners of the kind of numbers that pages get;  of the kind that they lose
+--     moving_in      the pages of a range that move
+--     IsFree, AreFree      whether a number is unused for a page of this number, if it moves;  for each page of a range that moves
+--     swapped      the cells after the pages of a range that move got the least ones
 --     Takes, TakesNumber      counts after the least unused number was taken, of one kind;  of both
 --     Moves, Stays      a page that moved to a number that it took, and left its own;  one that stayed
 --     Settles      which of these became of a page
 --     SwapsAt, MovesAt      and of the cells
-use Rattle.std.specs.Prelude.{◌≡◌, ℕ, ◌+◌, Bool, true, false, nat_eq, List, ◌∷◌, length, slice_index, Option, Some}
+use Rattle.std.specs.Prelude.{◌≡◌, ℕ, ◌+◌, ◌<◌, ◌≤◌, Bool, true, false, nat_eq, List, ◌∷◌, length, slice_index, Option, Some}
 use Rattle.std.specs.Option.{option_map_or}
 use Rattle.std.specs.FinMap as map
 use Rattle.page_map.specs.declared.cell.Cell.{Cell}
 use Rattle.page_map.specs.Cell.{frame_of, slot_of}
+use Rattle.page_map.specs.Change.{keys_in}
 use Rattle.page_map.specs.State.{AddressSpace}
-use Rattle.page_map.specs.Swap.{out_to, in_to}
+use Rattle.page_map.specs.Swap.{out_to, in_to, moved_to}
+use Rattle.page_map.specs.Takes.{grant}
 use Rattle.plain_counts.specs.declared.counts.Counts.{Counts}
 use Rattle.plain_counts.specs.Counts.{one_at, Leaves}
 use Rattle.plain_counts.specs.Owners.{unused_of}
@@ -55,6 +60,19 @@ taken In counts = counts.frames
 abbrev pub left : Move → Counts → List ℕ
 left Out counts = counts.frames
 left In counts = counts.slots
+
+abbrev pub IsFree : Move → Counts → Number → Type 0
+IsFree way counts number = moves way counts number ≡ true → 0 < length (unused_of (taken way counts))
+
+abbrev pub moving_in : Move → Counts → AddressSpace → ℕ → ℕ → List ℕ
+moving_in way counts cells first count = keys_in cells first count (passes way counts)
+
+abbrev pub AreFree : Move → Counts → AddressSpace → ℕ → ℕ → Type 0
+AreFree way counts cells first count = length (moving_in way counts cells first count) ≤ length (unused_of (taken way counts))
+
+abbrev pub swapped : Move → Counts → ℕ → ℕ → AddressSpace → AddressSpace
+swapped way counts first count cells =
+    moved_to (to way) (grant (moving_in way counts cells first count) (unused_of (taken way counts))) first count cells
 
 pub record Takes (number : ℕ) (old new : List ℕ) : Type 0 where
   pub least : unused_of old ≡ number ∷ unused_of new

@@ -1,16 +1,17 @@
 //! Accesses to the cells of one space: which bytes they reach, and what they read and write.
-ghost use Rattle.std.specs.Prelude.{◌≡◌, ℕ, ◌+◌, ◌%◌, ◌<◌, ◌≤◌, ◌^◌, List, length, IfOk, IfErr, IfSome, Some, None};
-ghost use Rattle.std.specs.Option.{option_map};
-ghost use Rattle.page_map.specs.Change.{change};
+ghost use Rattle.std.specs.Prelude.{◌≡◌, ℕ, ◌+◌, ◌-◌, ◌*◌, ◌%◌, ◌<◌, ◌≤◌, ◌^◌, List, length, IfOk, IfErr, IsTrue, None};
 ghost use Rattle.table_place.specs.Place.{is_user_page};
-ghost use Rattle.page_map.specs.Access.{first_page, page_count, outside_user_pages, loaded};
-ghost use Rattle.plain_spaces.specs.Reach.{reaching, last_page, IsUserAccess, stored_at, IsResident};
-ghost use Rattle.plain_spaces.specs.Wants.{refusal_of};
+ghost use Rattle.page_map.specs.Access.{first_page, outside_user_pages, loaded};
+ghost use Rattle.plain_counts.specs.Levels.{Lists};
+ghost use Rattle.plain_spaces.specs.Reach.{reaching, last_page, lacked, after_write, IsUserAccess, IsResident};
+ghost use Rattle.plain_spaces.specs.Wants.{StopsFor};
 
 use corten_base::{ByteList, PAGE_BYTES, Reply};
+use plain_counts::{Pages, Tables};
 use space_cells::AddressSpace;
-use std::alloc::AllocError;
+use std::alloc::{AllocError, Global};
 use std::marker::Model;
+use table_place::Place;
 
 /// Bytes of user pages that are read or written: 1 to 4,096 of them, from an address on.
 #[derive(Clone, Copy)]
@@ -33,28 +34,46 @@ impl Model for Access {
     ghost invariant = { λ a. IsUserAccess (reaching a.at a.len a.write) };
 }
 
-/// Whether a page is a user page.
-fn is_user(page: u64) -> bool
-    ensures { result ≡ is_user_page 4 page }
+/// The page at which the lower canonical half of the addresses ends.
+pub(crate) fn user_end(levels: u8) -> u64
+    requires four { 4 ≤ levels }
+    requires five { levels ≤ 5 }
+    ensures value { result ≡ 2 ^ (9 * levels - 1) }
+    ensures wide { result ≤ 2 ^ 44 }
 {
-    page >= 16 && page < (1 << 35) - 1
+    if levels == 4 { 1 << 35 } else { 1 << 44 }
+}
+
+/// Whether a page is a user page.
+fn is_user(levels: u8, page: u64) -> bool
+    requires four { 4 ≤ levels }
+    requires five { levels ≤ 5 }
+    requires page { page < 2 ^ 52 }
+    ensures value { result ≡ is_user_page levels page }
+    ensures low { IsTrue result → 16 ≤ page }
+    ensures high { IsTrue result → page + 1 < 2 ^ 44 }
+{
+    page >= 16 && page + 1 < user_end(levels)
 }
 
 impl Access {
-    /// An access, or the refusal of one that has a page which is no user page.
-    pub fn new(at: u64, len: u16, write: bool) -> Result<Access, Stop>
+    /// An access where there are 4 or 5 levels, or the refusal of one that has a page which is no user page.
+    pub fn new(levels: u8, at: u64, len: u16, write: bool) -> Result<Access, Stop>
+        requires four { 4 ≤ levels }
+        requires five { levels ≤ 5 }
         requires some { 0 < len }
         requires few { len ≤ 4096 }
         ensures access { IfOk result (λ access. access ≡ reaching at len write) }
-        ensures ok { IfOk result (λ _. outside_user_pages 4 (reaching at len write) ≡ None) }
-        ensures refused { IfErr result (λ stop. IfSome (refusal_of stop) (λ reply. outside_user_pages 4 (reaching at len write) ≡ Some reply)) }
+        ensures ok { IfOk result (λ _. outside_user_pages levels (reaching at len write) ≡ None) }
+        ensures refused { IfErr result
+            (StopsFor (outside_user_pages levels (reaching at len write))) }
     {
         let first = at / 4096;
-        if !is_user(first) {
+        if !is_user(levels, first) {
             return Err(Stop::Refused(Reply::Segv(4096 * first)));
         }
         let last = (at + u64::from(len) - 1) / 4096;
-        if !is_user(last) {
+        if !is_user(levels, last) {
             return Err(Stop::Refused(Reply::Segv(4096 * last)));
         }
         Ok(Access { at, len, write })
@@ -63,7 +82,7 @@ impl Access {
     /// The first page that it touches.
     pub(crate) fn first(self) -> u64
         ensures value { result ≡ first_page self }
-        ensures small { result < 2 ^ 35 }
+        ensures small { result < 2 ^ 44 }
         ensures user { IsUserAccess self }
     {
         self.at / 4096
@@ -80,9 +99,37 @@ impl Access {
     /// The last page that it touches: the first, or the next.
     pub(crate) fn last(self) -> u64
         ensures value { result ≡ last_page self }
-        ensures small { result < 2 ^ 35 }
+        ensures small { result < 2 ^ 44 }
     {
         (self.at + u64::from(self.len) - 1) / 4096
+    }
+}
+
+impl Access {
+    /// The missing page tables above its pages: those that it lacks (`an_access_lacks_what_is_above_its_pages` of page_map).
+    pub fn missing_tables(
+        self,
+        alloc: Global,
+        tables: &Tables,
+        levels: u8,
+        space: u8,
+    ) -> Result<Vec<Place>, AllocError>
+        requires some { 1 ≤ levels }
+        requires few { levels ≤ 5 }
+        ensures { IfOk result (λ found. Lists (lacked levels space self tables.now) found.items) }
+    {
+        let near = Pages {
+            first: self.first(),
+            count: 1,
+        };
+        if self.last() == self.first() {
+            return tables.missing_cut(alloc, levels, space, &[near]);
+        }
+        let far = Pages {
+            first: self.last(),
+            count: 1,
+        };
+        tables.missing_cut(alloc, levels, space, &[near, far])
     }
 }
 
@@ -108,7 +155,7 @@ impl From<AllocError> for Stop {
 /// Writes the bytes of an access to those of its pages that have frames.
 pub(crate) fn write(cells: &mut AddressSpace, access: Access, bytes: &[u8])
     requires { length bytes.now ≡ access.len }
-    ensures { cells.new ≡ change cells.old (first_page access) (page_count access) (λ page. option_map (stored_at access.at bytes.now page)) }
+    ensures { cells.new ≡ after_write access bytes.now cells.old }
 {
     let start = access.start();
     let (near, far) = bytes.split_at(bytes.len().min(PAGE_BYTES - start as usize));

@@ -1,12 +1,10 @@
 //! The pages of an access get the frames that they want, and bytes are stored.
-ghost use Rattle.std.specs.Prelude.{◌≡◌, ℕ, ◌<◌, ◌≤◌, List, length, slice_index, IfSome, IsSome, OnOk, OnErr};
+ghost use Rattle.std.specs.Prelude.{◌≡◌, ◌<◌, length, slice_index, IfSome, IsSome, OnOk, OnErr};
 ghost use Rattle.std.specs.FinMap as map;
-ghost use Rattle.page_map.specs.Takes.{grant};
 ghost use Rattle.plain_counts.specs.Counts.{AreCounted, Follow};
-ghost use Rattle.plain_counts.specs.Owners.{unused_of};
 ghost use Rattle.plain_spaces.specs.Numbers.{IsCarried, Keeps, LeavesAny};
-ghost use Rattle.plain_spaces.specs.Reach.{brought, wanting};
-ghost use Rattle.plain_spaces.specs.Wants.{from_of, in_frame, laid, IsPlan, IsSomePlan, Made};
+ghost use Rattle.plain_spaces.specs.Reach.{HasFrames};
+ghost use Rattle.plain_spaces.specs.Wants.{from_of, in_frame, laid, Brings, IsSomePlan, Made};
 
 use crate::access::write;
 use crate::numbers::{give_back, give_up, take_frame};
@@ -85,10 +83,9 @@ impl Plan {
     /// Gives each page the frame that it wants.
     fn bring_in(self, cells: &mut AddressSpace, counts: &mut Counts) -> Result<(), AllocError>
         requires planned { IsSomePlan cells.old (slice_index counts.old.frames) self }
-        requires enough { length (wanting (slice_index counts.old.frames) cells.old self.access) ≤ length (unused_of counts.old.frames) }
+        requires enough { HasFrames counts.old cells.old self.access }
         requires counted { AreCounted counts.old cells.old }
-        ensures cells { OnOk result ((files : List (List ℕ)) → IsPlan files cells.old (slice_index counts.old.frames) self → cells.new
-            ≡ brought files (grant (wanting (slice_index counts.old.frames) cells.old self.access) (unused_of counts.old.frames)) self.access cells.old) }
+        ensures cells { OnOk result (Brings counts.old cells.old cells.new self) }
         ensures counts { OnOk result (Follow counts.old counts.new cells.old cells.new) }
         ensures kept { OnErr result (Keeps cells.old cells.new counts.old counts.new) }
     {
@@ -121,10 +118,11 @@ impl Plan {
         stored: &[u8],
     ) -> Result<(), AllocError>
         requires planned { IsSomePlan cells.old (slice_index counts.old.frames) self }
-        requires enough { length (wanting (slice_index counts.old.frames) cells.old self.access) ≤ length (unused_of counts.old.frames) }
+        requires enough { HasFrames counts.old cells.old self.access }
         requires stored { 0 < length stored.now → length stored.now ≡ self.access.len }
         requires counted { AreCounted counts.old cells.old }
-        ensures made { OnOk result (Made counts.old counts.new cells.old cells.new stored.now self) }
+        ensures made { OnOk result
+            (Made counts.old counts.new cells.old cells.new stored.now self) }
         ensures kept { OnErr result (Keeps cells.old cells.new counts.old counts.new) }
     {
         let access = self.access;

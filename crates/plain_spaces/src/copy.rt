@@ -1,22 +1,19 @@
-//! Copies of a space: the page tables above its cells, and one key more for each number that they carry.
-ghost use Rattle.std.specs.Prelude.{◌≡◌, OnOk, OnErr};
-ghost use Rattle.std.specs.FinMap as map;
-ghost use Rattle.std.specs.FinSet as set;
+//! Copies of a space: the page tables that one has, and one key more for each number that its cells carry.
+ghost use Rattle.std.specs.Prelude.{◌≡◌, ◌+◌, ◌^◌, ◌<◌, ◌≤◌, true, ◌∷◌, [], OnOk, IfOk};
+ghost use Rattle.std.specs.List.{All};
+ghost use Rattle.std.specs.FinMap.{empty};
+ghost use Rattle.table_place.specs.Place.{is_place, span_first, span_count};
 ghost use Rattle.plain_counts.specs.Counts.{AreCounted, Follow};
-ghost use Rattle.plain_counts.specs.Levels.{is_elsewhere};
-ghost use Rattle.plain_spaces.specs.Copies.{AreLow, AreRoomy, JoinAll, tables_above, new_tables, IsNewTo};
+ghost use Rattle.plain_spaces.specs.Copies.{AreLow, ArePlaces, AreRoomy, JoinAll, ListsCopies, is_used, with_copies};
 
 use crate::numbers::{give_up, share_number};
-use plain_counts::{Counts, Tables};
+use plain_counts::{Counts, Tables, span};
 use space_cells::AddressSpace;
 use std::alloc::{AllocError, Global};
 use table_place::Place;
 
 /// The number of a page that stands after all user pages.
-const END: u64 = 1 << 35;
-
-/// The pages in the span of a table of the first level.
-const TABLE_PAGES: u64 = 512;
+const END: u64 = 1 << 44;
 
 /// Gives each number to as many keys more as carry it in a space.
 pub fn share(cells: &AddressSpace, counts: &mut Counts)
@@ -36,7 +33,7 @@ pub fn share(cells: &AddressSpace, counts: &mut Counts)
 pub fn leave(cells: &AddressSpace, counts: &mut Counts)
     requires low { AreLow cells.now }
     requires counted { AreCounted counts.old cells.now }
-    ensures { Follow counts.old counts.new cells.now map.empty }
+    ensures { Follow counts.old counts.new cells.now empty }
 {
     let mut next = 0;
     while let Some((page, number)) = cells.next_held(next, END) {
@@ -45,61 +42,80 @@ pub fn leave(cells: &AddressSpace, counts: &mut Counts)
     }
 }
 
-/// Puts in the tables above the pages, as those of a space. One page is looked at in each span of a table.
-fn add_above(
-    alloc: Global,
-    cells: &AddressSpace,
-    tables: &mut Tables,
-    space: u8,
-) -> Result<(), AllocError>
-    requires { AreLow cells.now }
-    ensures ok { OnOk result (tables.new ≡ set.union tables.old (set.from_list (tables_above space (map.keys cells.now)))) }
-    ensures others { OnErr result (set.retain tables.new (is_elsewhere space) ≡ set.retain tables.old (is_elsewhere space)) }
+/// Whether a page of a space stands in the span of one of its tables below the root.
+fn is_used(cells: &AddressSpace, place: Place) -> bool
+    requires level { place.level ≤ 4 }
+    requires span { span_first place + span_count place < 2 ^ 64 }
+    ensures { result ≡ is_used cells.now place }
 {
-    let mut next = 0;
-    while let Some(page) = cells.next(next, END) {
-        tables.add_above(alloc, space, page, 1)?;
-        next = (page / TABLE_PAGES + 1) * TABLE_PAGES;
+    let pages = span(place.level);
+    let first = place.prefix * pages;
+    cells.next(first, first + pages).is_some()
+}
+
+/// Puts the copy of a table below the root into those found, where the table is above a page.
+fn note_copy(
+    copies: &mut Tables,
+    cells: &AddressSpace,
+    levels: u8,
+    new: u8,
+    place: Place,
+) -> Result<(), AllocError>
+    requires levels { levels ≤ 5 }
+    requires place { is_place levels place ≡ true }
+    ensures { OnOk result (copies.new ≡ with_copies levels new cells.now (place ∷ []) copies.old) }
+{
+    if place.level < levels && is_used(cells, place) {
+        copies.insert(Place {
+            space: new,
+            level: place.level,
+            prefix: place.prefix,
+        })?;
     }
     Ok(())
 }
 
-/// Puts in the tables of a space with these cells: its root, and those above the pages.
-fn add_root_and_above(
-    alloc: Global,
+/// Puts the copies of those of some tables below the root that are above pages into those found.
+fn note_copies(
+    copies: &mut Tables,
     cells: &AddressSpace,
-    tables: &mut Tables,
-    space: u8,
+    levels: u8,
+    new: u8,
+    places: &[Place],
 ) -> Result<(), AllocError>
-    requires { AreLow cells.now }
-    ensures ok { OnOk result (tables.new ≡ set.union tables.old (set.from_list (new_tables space cells.now))) }
-    ensures others { OnErr result (set.retain tables.new (is_elsewhere space) ≡ set.retain tables.old (is_elsewhere space)) }
+    requires levels { levels ≤ 5 }
+    requires places { All (λ p. is_place levels p ≡ true) places.now }
+    ensures { OnOk result (copies.new ≡ with_copies levels new cells.now places.now copies.old) }
 {
-    tables.insert(Place {
-        space,
-        level: 4,
-        prefix: 0,
-    })?;
-    add_above(alloc, cells, tables, space)
+    for place in places {
+        note_copy(copies, cells, levels, new, *place)?;
+    }
+    Ok(())
 }
 
-/// The same where the space has no tables. Then none is put in where memory is wanted.
-pub fn add_tables(
+/// The tables of a copy of a space, each once: its root, and one for each of the space's tables that is above a page. It takes
+/// the time of the space's tables.
+pub fn copied_tables(
     alloc: Global,
     cells: &AddressSpace,
-    tables: &mut Tables,
+    tables: &Tables,
+    levels: u8,
     space: u8,
-) -> Result<(), AllocError>
-    requires low { AreLow cells.now }
-    requires absent { IsNewTo tables.old space }
-    ensures ok { OnOk result (tables.new ≡ set.union tables.old (set.from_list (new_tables space cells.now))) }
-    ensures err { OnErr result (tables.new ≡ tables.old) }
+    new: u8,
+) -> Result<Vec<Place>, AllocError>
+    requires space { space < 64 }
+    requires levels { levels ≤ 5 }
+    requires places { ArePlaces levels tables.now }
+    ensures { IfOk result
+        (λ copies. ListsCopies levels space new cells.now tables.now copies.items) }
 {
-    match add_root_and_above(alloc, cells, tables, space) {
-        Ok(()) => Ok(()),
-        Err(wanting) => {
-            tables.remove_space(space);
-            Err(wanting)
-        }
-    }
+    let mut copies = Tables::new(alloc);
+    copies.insert(Place {
+        space: new,
+        level: levels,
+        prefix: 0,
+    })?;
+    let places = tables.of_space(alloc, space)?;
+    note_copies(&mut copies, cells, levels, new, &places)?;
+    copies.list(alloc)
 }

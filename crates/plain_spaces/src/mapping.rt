@@ -1,7 +1,8 @@
-//! Pages that are mapped and unmapped, and several changes at once. What stood there loses its frames and swap slots.
+//! Pages that are mapped, unmapped and given back, and several changes at once. What stood there loses its frames and swap slots.
 ghost use Rattle.std.specs.Prelude.{◌≡◌, ◌+◌, ◌-◌, ◌<◌, ◌^◌, Some, None, OnOk, OnErr};
 ghost use Rattle.std.specs.List.{All};
 ghost use Rattle.page_map.specs.Change.{change};
+ghost use Rattle.page_map.specs.DontNeed.{given_back};
 ghost use Rattle.page_map.specs.Mapping.{backed};
 ghost use Rattle.page_runs.specs.Changes.{IsChange};
 ghost use Rattle.page_runs.specs.Mark.{index_of};
@@ -26,7 +27,8 @@ pub fn map_pages(
     requires indexes { index_of run.mark.backing + run.count < 2 ^ 64 }
     requires counted { AreCounted counts.old cells.old }
     ensures cells { OnOk result (cells.new
-        ≡ change cells.old run.first run.count (λ page _. Some (backed run.mark.backing run.mark.perm (page - run.first)))) }
+        ≡ change cells.old run.first run.count
+        (λ page _. Some (backed run.mark.backing run.mark.perm (page - run.first)))) }
     ensures counts { OnOk result (Follow counts.old counts.new cells.old cells.new) }
     ensures kept { OnErr result (Keeps cells.old cells.new counts.old counts.new) }
 {
@@ -50,6 +52,25 @@ pub fn unmap_pages(
     ensures kept { OnErr result (Keeps cells.old cells.new counts.old counts.new) }
 {
     let released = cells.unmap(alloc, first, count)?;
+    give_up_all(counts, &released);
+    Ok(())
+}
+
+/// Gives the frames and slots of a range's pages back: the pages are what they came from again.
+pub fn give_back_pages(
+    alloc: Global,
+    cells: &mut AddressSpace,
+    counts: &mut Counts,
+    first: u64,
+    count: u64,
+) -> Result<(), AllocError>
+    requires pages { first + count < 2 ^ 64 }
+    requires counted { AreCounted counts.old cells.old }
+    ensures cells { OnOk result (cells.new ≡ given_back first count cells.old) }
+    ensures counts { OnOk result (Follow counts.old counts.new cells.old cells.new) }
+    ensures kept { OnErr result (Keeps cells.old cells.new counts.old counts.new) }
+{
+    let released = cells.give_back(alloc, first, count)?;
     give_up_all(counts, &released);
     Ok(())
 }

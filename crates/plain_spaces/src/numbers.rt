@@ -1,7 +1,7 @@
 //! Numbers of frames and swap slots beside the counts of their owners.
-ghost use Rattle.std.specs.Prelude.{◌≡◌, ℕ, ◌+◌, ◌-◌, ◌<◌, ◌∷◌, true, length, slice_index, slice_set, is_some, IfSome, IfNone};
+ghost use Rattle.std.specs.Prelude.{◌≡◌, ◌<◌, ◌∷◌, true, length, slice_index, slice_set, is_some, IfSome, IfNone};
 ghost use Rattle.plain_counts.specs.Owners.{unused_of};
-ghost use Rattle.plain_spaces.specs.Numbers.{AreCarried, IsCarried, Join, Leave, LeaveAll, MayShare};
+ghost use Rattle.plain_spaces.specs.Numbers.{AreCarried, IsCarried, Join, Leave, LeaveAll, MayShare, WasUnused, one_fewer};
 
 use plain_counts::{Counts, Owners};
 use space_cells::Number;
@@ -43,7 +43,7 @@ pub(crate) fn take_frame(frames: &mut Owners, wanted: bool) -> Option<u32>
     requires { wanted ≡ true → 0 < length (unused_of frames.old) }
     ensures some { is_some result ≡ wanted }
     ensures taken { IfSome result (λ n. unused_of frames.old ≡ n ∷ unused_of frames.new) }
-    ensures unused { IfSome result (λ n. (n < length frames.old) × (slice_index frames.old n ≡ 0)) }
+    ensures unused { IfSome result (WasUnused frames.old) }
     ensures count { IfSome result (λ n. frames.new ≡ slice_set frames.old n 1) }
     ensures none { IfNone result (frames.new ≡ frames.old) }
 {
@@ -53,7 +53,7 @@ pub(crate) fn take_frame(frames: &mut Owners, wanted: bool) -> Option<u32>
 /// Gives a frame that was taken back, if one was.
 pub(crate) fn give_back(frames: &mut Owners, taken: Option<u32>)
     requires { IfSome taken (λ n. 0 < slice_index frames.old n) }
-    ensures some { IfSome taken (λ n. frames.new ≡ slice_set frames.old n (slice_index frames.old n - 1)) }
+    ensures some { IfSome taken (λ n. frames.new ≡ one_fewer frames.old n) }
     ensures none { IfNone taken (frames.new ≡ frames.old) }
 {
     if let Some(frame) = taken {

@@ -1,15 +1,13 @@
 //! What the pages of an access want before it is made, and whether they refuse it.
-ghost use Rattle.std.specs.Prelude.{◌≡◌, ℕ, ◌+◌, ◌<◌, ◌≤◌, ◌^◌, cond, length, slice_index, IfOk, IfErr, IfSome, Some, None};
-ghost use Rattle.std.specs.Option.{option_map};
-ghost use Rattle.std.specs.FinMap as map;
+ghost use Rattle.std.specs.Prelude.{◌≡◌, ℕ, ◌+◌, ◌<◌, ◌≤◌, ◌^◌, cond, length, slice_index, IfOk, IfErr, IfSome, None};
 ghost use Rattle.page_map.specs.Cell.{can_read, can_write, contents, frame_of, file_page};
 ghost use Rattle.page_map.specs.Cell.{zeros as page_zeros};
-ghost use Rattle.page_map.specs.Access.{refused_access, refused_at};
+ghost use Rattle.page_map.specs.Access.{refused_access};
 ghost use Rattle.plain_counts.specs.Counts.{IsCounted};
 ghost use Rattle.space_cells.specs.Cells.{number_of};
 ghost use Rattle.space_cells.specs.Views.{seen};
-ghost use Rattle.plain_spaces.specs.Reach.{last_page, beyond, wants};
-ghost use Rattle.plain_spaces.specs.Wants.{backing_bytes, lies_past, want_of, IsNeed, IsPlan, refusal_of};
+ghost use Rattle.plain_spaces.specs.Reach.{wants};
+ghost use Rattle.plain_spaces.specs.Wants.{backing_bytes, lies_past, refusal_at, refusal_beyond, IsNeed, IsPlan, IsWant, StopsFor, WantsAt, WantsBeyond};
 
 use crate::access::{Access, Stop};
 use corten_base::{Backing, PageBuf, Perm, Reply};
@@ -122,7 +120,7 @@ fn want_of(
     view: PageView<'_>,
 ) -> Result<Option<Want>, AllocError>
     requires { IfSome (frame_of (seen view)) (λ n. n < length frames.now) }
-    ensures { IfOk result (λ want. want ≡ want_of shelf.now (slice_index frames.now) write (seen view.entry)) }
+    ensures { IfOk result (IsWant shelf.now frames.now write (seen view.entry)) }
 {
     if !is_wanting(frames, write, view) {
         return Ok(None);
@@ -144,9 +142,9 @@ fn look(
 ) -> Result<Option<Want>, Stop>
     requires page { page < 2 ^ 52 }
     requires counted { IsCounted frame_of frames.now cells.now }
-    ensures wanted { IfOk result (λ want. option_map (want_of shelf.now (slice_index frames.now) write) (map.get cells.now page) ≡ Some want) }
-    ensures ok { IfOk result (λ _. refused_at shelf.now write page (map.get cells.now page) ≡ None) }
-    ensures refused { IfErr result (λ stop. IfSome (refusal_of stop) (λ reply. refused_at shelf.now write page (map.get cells.now page) ≡ Some reply)) }
+    ensures wanted { IfOk result (WantsAt shelf.now frames.now write cells.now page) }
+    ensures ok { IfOk result (λ _. refusal_at shelf.now write cells.now page ≡ None) }
+    ensures refused { IfErr result (StopsFor (refusal_at shelf.now write cells.now page)) }
 {
     let address = 4096 * page;
     let Some(view) = cells.get(page) else {
@@ -171,12 +169,9 @@ impl Access {
         frames: &Owners,
     ) -> Result<Option<Want>, Stop>
         requires { IsCounted frame_of frames.now cells.now }
-        ensures wanted { IfOk result (λ want. beyond self (Some None)
-            (option_map (want_of shelf.now (slice_index frames.now) self.write) (map.get cells.now (last_page self))) ≡ Some want) }
-        ensures ok { IfOk result (λ _. beyond self None
-            (refused_at shelf.now self.write (last_page self) (map.get cells.now (last_page self))) ≡ None) }
-        ensures refused { IfErr result (λ stop. IfSome (refusal_of stop) (λ reply. beyond self None
-            (refused_at shelf.now self.write (last_page self) (map.get cells.now (last_page self))) ≡ Some reply)) }
+        ensures wanted { IfOk result (WantsBeyond shelf.now frames.now cells.now self) }
+        ensures ok { IfOk result (λ _. refusal_beyond shelf.now cells.now self ≡ None) }
+        ensures refused { IfErr result (StopsFor (refusal_beyond shelf.now cells.now self)) }
     {
         if self.last() == self.first() {
             return Ok(None);
@@ -196,7 +191,7 @@ impl Access {
         ensures access { IfOk result (λ plan. plan.access ≡ self) }
         ensures plan { IfOk result (IsPlan shelf.now cells.now (slice_index frames.now)) }
         ensures ok { IfOk result (λ _. refused_access shelf.now cells.now self ≡ None) }
-        ensures refused { IfErr result (λ stop. IfSome (refusal_of stop) (λ reply. refused_access shelf.now cells.now self ≡ Some reply)) }
+        ensures refused { IfErr result (StopsFor (refused_access shelf.now cells.now self)) }
     {
         let near = look(alloc, cells, shelf, frames, self.write, self.first())?;
         let far = self.look_beyond(alloc, cells, shelf, frames)?;

@@ -1,13 +1,10 @@
 //! Pages that move to swap slots, and back to frames.
-ghost use Rattle.std.specs.Prelude.{◌≡◌, ◌+◌, ◌<◌, ◌≤◌, ◌^◌, cond, true, length, Some};
-ghost use Rattle.page_map.specs.Change.{keys_in};
-ghost use Rattle.page_map.specs.Swap.{moved_to};
-ghost use Rattle.page_map.specs.Takes.{grant};
+ghost use Rattle.std.specs.Prelude.{◌≡◌, ◌+◌, ◌<◌, ◌^◌, cond, length, Some};
 ghost use Rattle.plain_counts.specs.Counts.{AreCounted, Follow};
 ghost use Rattle.plain_counts.specs.Owners.{unused_of};
 ghost use Rattle.space_cells.specs.Cells.{number_at};
 ghost use Rattle.plain_spaces.specs.Numbers.{IsCarried};
-ghost use Rattle.plain_spaces.specs.Swapping.{moves, passes, taken, to, TakesNumber, MovesAt};
+ghost use Rattle.plain_spaces.specs.Swapping.{moves, moving_in, swapped, taken, AreFree, IsFree, TakesNumber, MovesAt};
 
 use crate::numbers::give_up;
 use plain_counts::Counts;
@@ -68,7 +65,7 @@ impl Move {
     pub fn pages(self, cells: &AddressSpace, counts: &Counts, first: u64, count: u64) -> u64
         requires fits { first + count < 2 ^ 64 }
         requires counted { AreCounted counts.now cells.now }
-        ensures { result ≡ length (keys_in cells.now first count (passes self counts.now)) }
+        ensures { result ≡ length (moving_in self counts.now cells.now first count) }
     {
         let end = first + count;
         let mut next = first;
@@ -84,7 +81,7 @@ impl Move {
     fn move_page(self, cells: &mut AddressSpace, counts: &mut Counts, page: u64, number: Number)
         requires here { number_at cells.old page ≡ Some number }
         requires counted { AreCounted counts.old cells.old }
-        requires enough { moves self counts.old number ≡ true → 0 < length (unused_of (taken self counts.old)) }
+        requires enough { IsFree self counts.old number }
         ensures { MovesAt self page cells.old cells.new counts.old counts.new }
     {
         if self.moves(counts, number) {
@@ -97,10 +94,9 @@ impl Move {
     /// Moves the pages of a range that move, in the time of those that have frames or slots.
     pub fn make(self, cells: &mut AddressSpace, counts: &mut Counts, first: u64, count: u64)
         requires fits { first + count < 2 ^ 64 }
-        requires enough { length (keys_in cells.old first count (passes self counts.old)) ≤ length (unused_of (taken self counts.old)) }
+        requires enough { AreFree self counts.old cells.old first count }
         requires counted { AreCounted counts.old cells.old }
-        ensures cells { cells.new
-            ≡ moved_to (to self) (grant (keys_in cells.old first count (passes self counts.old)) (unused_of (taken self counts.old))) first count cells.old }
+        ensures cells { cells.new ≡ swapped self counts.old first count cells.old }
         ensures counts { Follow counts.old counts.new cells.old cells.new }
     {
         let end = first + count;

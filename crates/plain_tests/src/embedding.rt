@@ -9,6 +9,7 @@ use std::test::Fail;
 /// Maps a page where there is room, stores two bytes there, and loads three.
 fn store_and_load(alloc: Global, space: SpaceId, perm: Perm) -> Result<Reply, StepFault> {
     let limits = Limits {
+        levels: 4,
         frames: 2,
         tables: 8,
         swap: 1,

@@ -52,6 +52,9 @@ enum Asked {
     Out,
     In,
     Txn(TxnOp),
+    DontNeed,
+    /// From a number of pages to another.
+    Remap(u8, u8),
 }
 
 /// A reply, which has no bytes or two.
@@ -122,6 +125,13 @@ fn call_of(alloc: Global, space: SpaceId, asked: Asked) -> Result<Call, AllocErr
         Asked::Out => Ok(Call::SwapOut { space, at, len }),
         Asked::In => Ok(Call::SwapIn { space, at, len }),
         Asked::Txn(op) => transaction(alloc, space, op),
+        Asked::DontNeed => Ok(Call::DontNeed { space, at, len }),
+        Asked::Remap(old, new) => Ok(Call::Remap {
+            space,
+            at,
+            old_len: u64::from(old) * LEN,
+            new_len: u64::from(new) * LEN,
+        }),
     }
 }
 
@@ -183,6 +193,7 @@ fn play(
 /// A machine with one file.
 fn machine(alloc: Global) -> Result<Plain, AllocError> {
     let limits = Limits {
+        levels: 4,
         frames: 4,
         tables: 16,
         swap: 2,
@@ -203,7 +214,7 @@ fn outcome(alloc: Global, steps: &[Step]) -> Result<(usize, Option<Seen>), StepF
 
 #[test]
 fn each_call_is_accepted(rt: HostRuntime) -> Result<(), Fail> {
-    const STEPS: [Step; 18] = [
+    const STEPS: [Step; 23] = [
         (
             0,
             Asked::Map(MapPlace::Any, Backing::Zero),
@@ -212,6 +223,11 @@ fn each_call_is_accepted(rt: HostRuntime) -> Result<(), Fail> {
         (0, Asked::Map(MapPlace::At(AT), FILE), Wanted::At(AT)),
         (0, Asked::Load, Wanted::Bytes(*b"he")),
         (0, Asked::Store, Wanted::Ok),
+        (0, Asked::DontNeed, Wanted::Ok),
+        (0, Asked::Load, Wanted::Bytes(*b"he")),
+        (0, Asked::Remap(1, 2), Wanted::At(AT)),
+        (0, Asked::Store, Wanted::Ok),
+        (0, Asked::Remap(2, 1), Wanted::At(AT)),
         (0, Asked::Protect, Wanted::Ok),
         (0, Asked::Fork, Wanted::Space(1)),
         (1, Asked::Fault, Wanted::Ok),
@@ -262,6 +278,7 @@ fn is_lack_told(alloc: Global, plain: &mut Plain) -> Result<bool, StepFault> {
 /// Whether a machine of three page tables tells what it lacks where two are in limbo, and makes no call where three are.
 fn counts_limbo(alloc: Global) -> Result<bool, StepFault> {
     let limits = Limits {
+        levels: 4,
         frames: 1,
         tables: 3,
         swap: 0,

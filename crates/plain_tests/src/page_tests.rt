@@ -28,16 +28,19 @@ const FILE: Status = Status::File {
 
 #[test]
 fn user_pages_are_those_of_the_lower_half(rt: HostRuntime) -> Result<(), Fail> {
-    const RANGES: [(u64, u64, Option<(u64, u64)>); 6] = [
-        (65_536, 1, Some((16, 1))),
-        (0x7fff_ffff_d000, 4097, Some((34_359_738_365, 2))),
-        (0x7fff_ffff_e000, 4097, None),
-        (61_440, 4096, None),
-        (65_536, 0, None),
-        (65_537, 1, None),
+    const RANGES: [(u8, u64, u64, Option<(u64, u64)>); 9] = [
+        (4, 65_536, 1, Some((16, 1))),
+        (4, 0x7fff_ffff_d000, 4097, Some((34_359_738_365, 2))),
+        (4, 0x7fff_ffff_e000, 4097, None),
+        (5, 0x7fff_ffff_e000, 4097, Some((34_359_738_366, 2))),
+        (5, 0xff_ffff_ffff_e000, 4096, Some((17_592_186_044_414, 1))),
+        (5, 0xff_ffff_ffff_f000, 4096, None),
+        (4, 61_440, 4096, None),
+        (4, 65_536, 0, None),
+        (5, 65_537, 1, None),
     ];
-    for (at, len, wanted) in RANGES {
-        let found = Range::of_bytes(at, len).map(|range| (range.first(), range.count()));
+    for (levels, at, len, wanted) in RANGES {
+        let found = Range::of_bytes(at, len, levels).map(|range| (range.first(), range.count()));
         assert_eq!(rt; found, wanted);
     }
     Ok(())

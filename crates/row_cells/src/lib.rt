@@ -3,7 +3,7 @@
 
 ghost use Rattle.std.specs.Prelude.{◌≡◌, ◌<◌, length, slice_get, slice_set, replicate, Some, IfOk};
 
-use corten_base::Perm;
+use corten_base::{Backing, Perm};
 use frame_pool::FrameRef;
 use std::alloc::{AllocError, Global};
 use std::marker::Model;
@@ -23,11 +23,23 @@ pub enum Cell {
     /// A page of zeros that was not touched yet.
     Anon(Perm),
     /// A page of a file that was not touched yet. Pages of a file count from 0.
-    File { perm: Perm, file: u8, index: u64 },
-    /// A page in memory.
-    Mapped { perm: Perm, frame: FrameRef },
-    /// A page in swap.
-    Swapped { perm: Perm, slot: SlotRef },
+    File {
+        perm: Perm,
+        file: u8,
+        index: u64,
+    },
+    /// A page in memory, and what it came from.
+    Mapped {
+        perm: Perm,
+        origin: Backing,
+        frame: FrameRef,
+    },
+    /// A page in swap, and what it came from.
+    Swapped {
+        perm: Perm,
+        origin: Backing,
+        slot: SlotRef,
+    },
 }
 
 impl Cell {

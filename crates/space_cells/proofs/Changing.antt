@@ -5,10 +5,11 @@
 --     cleared_at, cleared_cells      pages that are let go of
 --     mapped_cells, unmapped_cells, protected_cells      the pages of a range that are mapped, unmapped and protected;  with .._have_marks, that what is held still lies over marks
 --     held_cells, renumbered_cells, overwritten_cells, let_go_cells      one page that is held, gets another number, is written, and is let go
+--     given_back_cells      the pages of a range that are let go;  with .._have_marks
 use Rattle.std.proofs.Common.{◌≡◌, ◌≢◌, ℕ, ◌+◌, ◌-◌, Bool, true, false, cond, List, refl, sym, ap, ◌∙◌, arith}
 use mathlib.Core.Bool.{true≢false}
 use mathlib.Core.Logic.{◌⊎◌, inl, inr}
-use Rattle.std.specs.Prelude.{Option, Some, None, IfSome, IfNone, IsSome, is_some, Result, Ok, Err, OnOk, OnErr}
+use Rattle.std.specs.Prelude.{Option, Some, None, IsSome, is_some, Result, Ok, Err, OnOk, OnErr}
 use Rattle.std.specs.Option.{option_map}
 use Rattle.std.specs.FinMap.{get}
 use Rattle.std.proofs.lemmas.Bool.{cases_eq, cases_lt}
@@ -17,7 +18,7 @@ use Rattle.corten_base.specs.declared.calls.Backing.{Backing}
 use Rattle.corten_base.specs.declared.calls.Backing.TheVariants as backing
 use Rattle.table_place.specs.Range.{within}
 use Rattle.page_map.specs.declared.cell.Cell.{Cell}
-use Rattle.page_map.specs.Cell.{perm_of}
+use Rattle.page_map.specs.DontNeed.{given_back}
 use Rattle.page_map.specs.Cell as cell
 use Rattle.page_map.specs.declared.cell.Cell.TheVariants.{File}
 use Rattle.page_map.specs.Change.{change}
@@ -30,8 +31,8 @@ use Rattle.space_cells.specs.declared.held.Number.{Number}
 use Rattle.space_cells.specs.declared.held.Number.TheVariants.{Frame, Slot}
 use Rattle.space_cells.specs.declared.held.HeldPage.{HeldPage}
 use Rattle.space_cells.specs.Held.{HeldPages, held_at, Clears, Sets}
-use Rattle.space_cells.specs.Cells.{HaveMarks, LetsGo, cell_of, cells_of, numbered, overwritten, overwritten_page, renumbered, renumbered_page, with_held, written_under}
-use Rattle.space_cells.proofs.Seen.{get_cells, over, perm_of_cell, same_cells}
+use Rattle.space_cells.specs.Cells.{HaveMarks, cell_of, cells_of, numbered, overwritten, overwritten_page, renumbered, renumbered_page, with_held, written_under}
+use Rattle.space_cells.proofs.Seen.{backing_of_cell, get_cells, over, perm_of_cell, unheld_cell}
 
 -- a mark that goes on stands for a later page of the mapping
 pub backed_on : (backing : Backing) (perm : Perm) (i : ℕ) → backed (backing_after backing i) perm 0 ≡ backed backing perm i
@@ -50,13 +51,13 @@ over_protected perm h (Some mark) = ap Some (both h mark)
     unheld backing.Zero old = refl
     unheld (backing.File file index) old = refl
 
-    held : (number : Number) (bytes : List ℕ) (old : Perm) → numbered perm number bytes ≡ cell.with_perm perm (numbered old number bytes)
-    held (Frame frame) bytes old = refl
-    held (Slot slot) bytes old = refl
+    held : (origin : Backing) (number : Number) (bytes : List ℕ) (old : Perm) → numbered perm origin number bytes ≡ cell.with_perm perm (numbered old origin number bytes)
+    held origin (Frame frame) bytes old = refl
+    held origin (Slot slot) bytes old = refl
 
     both : (h : Option HeldPage) (mark : Mark) → cell_of (with_perm perm mark) h ≡ cell.with_perm perm (cell_of mark h)
     both None mark = unheld mark.backing mark.perm
-    both (Some page) mark = held page.number page.bytes mark.perm
+    both (Some page) mark = held mark.backing page.number page.bytes mark.perm
 
 module _ (marks marks' : Marks) (pages pages' : HeldPages) where
   -- a range that changes, and pages that stay
@@ -115,7 +116,7 @@ module _ (marks : Marks) (pages pages' : HeldPages) (page : ℕ) where
   -- a page that is held
   pub held_cells : (held : HeldPage) → Sets pages pages' page (Some held) → cells_of marks pages' ≡ change (cells_of marks pages) page 1 (λ _. option_map (with_held held))
   held_cells held sets = after_one marks pages pages' page (Some held) sets (with_held held)
-      (λ mark e. ap (λ perm. numbered perm held.number held.bytes) (sym (perm_of_cell mark (held_at pages page))))
+      (λ mark e. λ i. numbered (sym (perm_of_cell mark (held_at pages page)) i) (sym (backing_of_cell mark (held_at pages page)) i) held.number held.bytes)
 
   -- a page under another number
   pub renumbered_cells : (number : Number) → Sets pages pages' page (option_map (renumbered_page number) (held_at pages page)) →
@@ -126,13 +127,13 @@ module _ (marks : Marks) (pages pages' : HeldPages) (page : ℕ) where
       still backing.Zero perm = refl
       still (backing.File file index) perm = refl
 
-      other : (perm : Perm) (old : Number) (bytes : List ℕ) → numbered perm number bytes ≡ renumbered number (numbered perm old bytes)
-      other perm (Frame frame) bytes = refl
-      other perm (Slot slot) bytes = refl
+      other : (perm : Perm) (origin : Backing) (old : Number) (bytes : List ℕ) → numbered perm origin number bytes ≡ renumbered number (numbered perm origin old bytes)
+      other perm origin (Frame frame) bytes = refl
+      other perm origin (Slot slot) bytes = refl
 
       go : (mark : Mark) (h : Option HeldPage) → cell_of mark (option_map (renumbered_page number) h) ≡ renumbered number (cell_of mark h)
       go mark None = still mark.backing mark.perm
-      go mark (Some held) = other mark.perm held.number held.bytes
+      go mark (Some held) = other mark.perm mark.backing held.number held.bytes
 
   -- bytes that are written
   pub overwritten_cells : (place : ℕ) (written : List ℕ) → Sets pages pages' page (option_map (overwritten_page place written) (held_at pages page)) →
@@ -143,44 +144,19 @@ module _ (marks : Marks) (pages pages' : HeldPages) (page : ℕ) where
       still backing.Zero perm = refl
       still (backing.File file index) perm = refl
 
-      other : (perm : Perm) (number : Number) (bytes : List ℕ) → numbered perm number (written_under number place written bytes) ≡ overwritten place written (numbered perm number bytes)
-      other perm (Frame frame) bytes = refl
-      other perm (Slot slot) bytes = refl
+      other : (perm : Perm) (origin : Backing) (number : Number) (bytes : List ℕ) →
+          numbered perm origin number (written_under number place written bytes) ≡ overwritten place written (numbered perm origin number bytes)
+      other perm origin (Frame frame) bytes = refl
+      other perm origin (Slot slot) bytes = refl
 
       go : (mark : Mark) (h : Option HeldPage) → cell_of mark (option_map (overwritten_page place written) h) ≡ overwritten place written (cell_of mark h)
       go mark None = still mark.backing mark.perm
-      go mark (Some held) = other mark.perm held.number held.bytes
+      go mark (Some held) = other mark.perm mark.backing held.number held.bytes
 
   -- a page that is let go
-  pub let_go_cells : HaveMarks marks pages → Sets pages pages' page None → IsSome (held_at pages page) → LetsGo page (cells_of marks pages) (cells_of marks pages')
-  let_go_cells have sets some = go (get marks page) refl (have page some)
-    where
-      go : (o : Option Mark) → get marks page ≡ o → IsSome o → LetsGo page (cells_of marks pages) (cells_of marks pages')
-      go None e h = absurd (true≢false (sym h))
-      go (Some mark) e h = (
-        mark.backing,
-        after_one marks pages pages' page None sets (λ cell. backed mark.backing (perm_of cell) 0) (λ other is.
-            ap (λ m. backed m.backing other.perm 0) (same_mark (sym is ∙ e)) ∙ ap (λ perm. backed mark.backing perm 0) (sym (perm_of_cell other (held_at pages page)))),
-      )
-        where
-          same_mark : {m n : Mark} → ◌≡◌ {A = Option Mark} (Some m) (Some n) → m ≡ n
-          same_mark p = cc
-
-  -- a page that held nothing
-  nothing_let_go : Sets pages pages' page None → held_at pages page ≡ None → (q : ℕ) → held_at pages' q ≡ held_at pages q
-  nothing_let_go sets none q = elim (cases_eq q page) [
-    | inl same ↦ ap (held_at pages') same ∙ sets.here ∙ sym (ap (held_at pages) same ∙ none)
-    | inr other ↦ sets.others q other
-  ]
-
-  -- whatever was held
-  pub if_let_go : HaveMarks marks pages → Sets pages pages' page None → (r : Option HeldPage) → r ≡ held_at pages page → IfSome r (λ _. LetsGo page (cells_of marks pages) (cells_of marks pages'))
-  if_let_go have sets None e = tt
-  if_let_go have sets (Some held) e = let_go_cells have sets (sym (ap is_some e))
-
-  pub if_not_held : Sets pages pages' page None → (r : Option HeldPage) → r ≡ held_at pages page → IfNone r (cells_of marks pages' ≡ cells_of marks pages)
-  if_not_held sets None e = same_cells marks pages pages' (nothing_let_go sets (sym e))
-  if_not_held sets (Some held) e = tt
+  pub let_go_cells : Sets pages pages' page None → cells_of marks pages' ≡ given_back page 1 (cells_of marks pages)
+  unfolding given_back
+  let_go_cells sets = after_one marks pages pages' page None sets (λ c. cell.goes_on c 0) (λ mark e. unheld_cell mark (held_at pages page))
 
 module _ (marks : Marks) (pages pages' : HeldPages) (first count : ℕ) (clears : Clears first (first + count) pages pages') where
   outside_cleared : (q : ℕ) → within first count q ≡ false → held_at pages' q ≡ held_at pages q
@@ -202,6 +178,25 @@ module _ (marks : Marks) (pages pages' : HeldPages) (first count : ℕ) (clears 
       go : (b : Bool) → within first count q ≡ b → held_at pages' q ≡ cond b None (held_at pages q)
       go true w = inside_cleared q w
       go false w = outside_cleared q w
+
+  -- a range where nothing is held any more, whose marks stay
+  pub given_back_cells : cells_of marks pages' ≡ given_back first count (cells_of marks pages)
+  unfolding given_back
+  given_back_cells = by_range marks marks pages pages' first count (λ page. option_map (λ c. cell.goes_on c 0))
+      (λ q w. ap (λ h. over h (get marks q)) (inside_cleared q w) ∙ unheld (held_at pages q) (get marks q))
+      (λ q w. ap (λ h. over h (get marks q)) (outside_cleared q w))
+    where
+      unheld : (h : Option HeldPage) (o : Option Mark) → over None o ≡ option_map (λ c. cell.goes_on c 0) (over h o)
+      unheld h None = refl
+      unheld h (Some mark) = ap Some (unheld_cell mark h)
+
+  -- what is held still lies over the marks
+  pub given_back_have_marks : HaveMarks marks pages → HaveMarks marks pages'
+  given_back_have_marks have q some = go (within first count q) (ap is_some (sym (cleared_at q)) ∙ some)
+    where
+      go : (b : Bool) → IsSome (cond b None (held_at pages q)) → IsSome (get marks q)
+      go true h = absurd (true≢false (sym h))
+      go false h = have q h
 
   -- a range whose marks change, and where nothing is held any more
   pub cleared_cells : (new : ℕ → Option Mark → Option Mark) (f : ℕ → Option Cell → Option Cell) →

@@ -3,3 +3,6 @@ pub mod Changing
 pub mod Walks
 pub mod Leasts
 pub mod Released
+pub mod Moved
+pub mod Copying
+pub mod Stretching

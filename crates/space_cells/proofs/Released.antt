@@ -130,8 +130,8 @@ number_after cells c q = ap (option_and_then number_of) (cell_seen cells c q) �
     same : (perm : Perm) (cell : Cell) → number_of (with_perm perm cell) ≡ number_of cell
     same perm (Anon old) = refl
     same perm (File old file index) = refl
-    same perm (Mapped old frame bytes) = refl
-    same perm (Swapped old slot bytes) = refl
+    same perm (Mapped old origin frame bytes) = refl
+    same perm (Swapped old origin slot bytes) = refl
 
     go : (b : Bool) (e : Effect) (o : Option Cell) →
         option_and_then number_of (cond b (made_cell e (q - c.first) o) o) ≡ cond ((b && frees e) || false) None (option_and_then number_of o)

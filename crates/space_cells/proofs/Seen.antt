@@ -2,7 +2,8 @@
 --     get_cells      the mark's cell, with what is held over it
 --     Over      what stands at a page, by mark and held page
 --     cells_are      a map that has this at each page is the cells
-use Rattle.std.proofs.Common.{◌≡◌, ℕ, Bool, true, false, cond, List, [], ◌∷◌, refl, sym, ap, ◌∙◌}
+--     perm_of_cell, backing_of_cell, unheld_cell      a page has what its mark says, whether it is held or not
+use Rattle.std.proofs.Common.{◌≡◌, ℕ, ◌+◌, Bool, true, false, cond, List, [], ◌∷◌, refl, sym, ap, ◌∙◌, arith}
 use mathlib.Core.Bool.{true≢false}
 use Rattle.std.specs.Prelude.{Option, Some, None, IsSome, is_some, is_none, map, nat_eq}
 use Rattle.std.specs.Option.{option_map, option_map_or, option_and_then}
@@ -15,7 +16,7 @@ use Rattle.corten_base.specs.declared.permissions.Perm.{Perm}
 use Rattle.corten_base.specs.declared.calls.Backing.{Backing}
 use Rattle.corten_base.specs.declared.calls.Backing.TheVariants as backing
 use Rattle.page_map.specs.declared.cell.Cell.{Cell}
-use Rattle.page_map.specs.Cell.{perm_of}
+use Rattle.page_map.specs.Cell.{backing_of, goes_on, perm_of}
 use Rattle.page_map.specs.Mapping.{backed}
 use Rattle.page_map.specs.State.{AddressSpace}
 use Rattle.page_runs.specs.declared.mark.Mark.{Mark}
@@ -62,26 +63,46 @@ perm_of_backed : (backing : Backing) (perm : Perm) → perm_of (backed backing p
 perm_of_backed backing.Zero perm = refl
 perm_of_backed (backing.File file index) perm = refl
 
-perm_of_numbered : (perm : Perm) (number : Number) (bytes : List ℕ) → perm_of (numbered perm number bytes) ≡ perm
-perm_of_numbered perm (Frame frame) bytes = refl
-perm_of_numbered perm (Slot slot) bytes = refl
+perm_of_numbered : (perm : Perm) (origin : Backing) (number : Number) (bytes : List ℕ) → perm_of (numbered perm origin number bytes) ≡ perm
+perm_of_numbered perm origin (Frame frame) bytes = refl
+perm_of_numbered perm origin (Slot slot) bytes = refl
 
 -- a held page has its mark's permissions
 pub perm_of_cell : (mark : Mark) (held : Option HeldPage) → perm_of (cell_of mark held) ≡ mark.perm
 perm_of_cell mark None = perm_of_backed mark.backing mark.perm
-perm_of_cell mark (Some held) = perm_of_numbered mark.perm held.number held.bytes
+perm_of_cell mark (Some held) = perm_of_numbered mark.perm mark.backing held.number held.bytes
+
+backing_of_backed : (backing : Backing) (perm : Perm) → backing_of (backed backing perm 0) ≡ backing
+backing_of_backed backing.Zero perm = refl
+backing_of_backed (backing.File file index) perm = ap (backing.File file) (same index)
+  where
+    same : (k : ℕ) → k + 0 ≡ k
+    same k = omega arith
+
+backing_of_numbered : (perm : Perm) (origin : Backing) (number : Number) (bytes : List ℕ) → backing_of (numbered perm origin number bytes) ≡ origin
+backing_of_numbered perm origin (Frame frame) bytes = refl
+backing_of_numbered perm origin (Slot slot) bytes = refl
+
+-- a page came from what its mark says, whether it is held or not
+pub backing_of_cell : (mark : Mark) (held : Option HeldPage) → backing_of (cell_of mark held) ≡ mark.backing
+backing_of_cell mark None = backing_of_backed mark.backing mark.perm
+backing_of_cell mark (Some held) = backing_of_numbered mark.perm mark.backing held.number held.bytes
+
+-- without what is held it is what it came from
+pub unheld_cell : (mark : Mark) (held : Option HeldPage) → cell_of mark None ≡ goes_on (cell_of mark held) 0
+unheld_cell mark held = λ i. backed (sym (backing_of_cell mark held) i) (sym (perm_of_cell mark held) i) 0
 
 none_backed : (backing : Backing) (perm : Perm) → held_of (backed backing perm 0) ≡ None
 none_backed backing.Zero perm = refl
 none_backed (backing.File file index) perm = refl
 
-held_of_numbered : (perm : Perm) (number : Number) (bytes : List ℕ) → held_of (numbered perm number bytes) ≡ Some (record { number = number; bytes = bytes })
-held_of_numbered perm (Frame frame) bytes = refl
-held_of_numbered perm (Slot slot) bytes = refl
+held_of_numbered : (perm : Perm) (origin : Backing) (number : Number) (bytes : List ℕ) → held_of (numbered perm origin number bytes) ≡ Some (record { number = number; bytes = bytes })
+held_of_numbered perm origin (Frame frame) bytes = refl
+held_of_numbered perm origin (Slot slot) bytes = refl
 
 held_of_cell : (mark : Mark) (held : Option HeldPage) → held_of (cell_of mark held) ≡ held
 held_of_cell mark None = none_backed mark.backing mark.perm
-held_of_cell mark (Some held) = held_of_numbered mark.perm held.number held.bytes
+held_of_cell mark (Some held) = held_of_numbered mark.perm mark.backing held.number held.bytes
 
 pub none_unmarked : (mark : Option Mark) (held : Option HeldPage) → (IsSome held → IsSome mark) → mark ≡ None → held ≡ None
 none_unmarked mark None h e = refl
@@ -130,13 +151,13 @@ module _ (marks : Marks) (pages : HeldPages) where
         none backing.Zero perm = refl
         none (backing.File file index) perm = refl
 
-        some : (perm : Perm) (number : Number) (bytes : List ℕ) → framed number bytes ≡ bytes_of (Some (numbered perm number bytes))
-        some perm (Frame frame) bytes = refl
-        some perm (Slot slot) bytes = refl
+        some : (perm : Perm) (origin : Backing) (number : Number) (bytes : List ℕ) → framed number bytes ≡ bytes_of (Some (numbered perm origin number bytes))
+        some perm origin (Frame frame) bytes = refl
+        some perm origin (Slot slot) bytes = refl
 
         under : (mark : Mark) (o : Option HeldPage) → option_map_or (λ held. framed held.number held.bytes) o [] ≡ bytes_of (Some (cell_of mark o))
         under mark None = none mark.backing mark.perm
-        under mark (Some held) = some mark.perm held.number held.bytes
+        under mark (Some held) = some mark.perm mark.backing held.number held.bytes
 
         go : (o : Option Mark) → get marks q ≡ o → option_map_or (λ held. framed held.number held.bytes) (held_at pages q) [] ≡ bytes_of (over (held_at pages q) o)
         go None e = ap (λ o. option_map_or (λ held. framed held.number held.bytes) o []) (none_unmarked (get marks q) (held_at pages q) (have q) e)

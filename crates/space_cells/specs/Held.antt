@@ -1,15 +1,18 @@
 -- Pages that have frames or slots, by page.
 --     held_at      the held page at a page
 --     Sets, SetsBoth      what one page holds is set;  and then what another one holds
+--     Alters      what one page holds changes
 --     Clears      no page of a range is held any more
+--     HoldNone, AreSameOutside      no page of a range is held;  all pages but those of a range hold what they held
 --     IsFirstHeld      the first held page of a range, with its number
 --     number_held, numbers_held      the number of the held page at a page;  the numbers of the held pages of a range, in the order of the pages
-use Rattle.std.specs.Prelude.{◌≡◌, ◌≢◌, ℕ, ◌<◌, ◌≤◌, List, Option, Some, None}
+use Rattle.std.specs.Prelude.{◌≡◌, ◌≢◌, ℕ, ◌<◌, ◌≤◌, true, false, List, Option, Some, None}
 use Rattle.std.specs.Option.{option_map}
 use Rattle.std.specs.List.{filter_map, range_with_len}
 use Rattle.std.specs.Ordering.{nat_cmp}
 use Rattle.std.specs.BTreeMap.{BTreeMap}
 use Rattle.std.specs.BTreeMap as tree
+use Rattle.table_place.specs.Range.{within}
 use Rattle.space_cells.specs.declared.held.Number.{Number}
 use Rattle.space_cells.specs.declared.held.HeldPage.{HeldPage}
 
@@ -29,6 +32,15 @@ pub record SetsBoth (old new : HeldPages) (near far : ℕ × HeldPage) : Type 0 
   pub between : HeldPages
   pub near_set : Sets old between near.0 (Some near.1)
   pub far_set : Sets between new far.0 (Some far.1)
+
+abbrev pub Alters : HeldPages → HeldPages → ℕ → (HeldPage → HeldPage) → Type 0
+Alters old new page f = Sets old new page (option_map f (held_at old page))
+
+abbrev pub HoldNone : ℕ → ℕ → HeldPages → Type 0
+HoldNone first count pages = (q : ℕ) → within first count q ≡ true → held_at pages q ≡ None
+
+abbrev pub AreSameOutside : ℕ → ℕ → HeldPages → HeldPages → Type 0
+AreSameOutside first count old new = (q : ℕ) → within first count q ≡ false → held_at new q ≡ held_at old q
 
 pub record Clears (first end : ℕ) (old new : HeldPages) : Type 0 where
   pub below : (q : ℕ) → q < first → held_at new q ≡ held_at old q

@@ -2,3 +2,4 @@ pub mod Cells
 pub mod Held
 pub mod Views
 pub mod Changes
+pub mod Moving

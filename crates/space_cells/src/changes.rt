@@ -1,10 +1,10 @@
 //! The frames and slots that changes of several ranges release.
-ghost use Rattle.std.specs.Prelude.{◌≡◌, ℕ, ◌++◌, ◌∷◌, cond, [], None, IfOk, OnOk};
-ghost use Rattle.std.specs.List.{All, filter_map, list_any, range_with_len};
+ghost use Rattle.std.specs.Prelude.{◌≡◌, ◌++◌, IfOk, OnOk};
+ghost use Rattle.std.specs.List.{All};
 ghost use Rattle.table_place.specs.Range.{within};
 ghost use Rattle.page_runs.specs.Changes.{IsChange};
-ghost use Rattle.space_cells.specs.Held.{held_at, number_held};
-ghost use Rattle.space_cells.specs.Changes.{frees, left, released_by, released_of, releases};
+ghost use Rattle.space_cells.specs.Held.{number_held};
+ghost use Rattle.space_cells.specs.Changes.{any_releases, frees, left_in, released_after, released_of, releases, unless, IsClearedOf};
 
 use crate::held::{HeldPages, Number, clear, first_in};
 use page_runs::{Change, Effect};
@@ -36,7 +36,7 @@ fn releases(change: Change, page: u64) -> bool
 
 /// Whether one of some changes takes the frame or slot of a page.
 fn are_releasing(changes: &[Change], page: u64) -> bool
-    ensures { result ≡ list_any (λ change. releases change page) changes.now }
+    ensures { result ≡ any_releases changes.now page }
 {
     changes.iter().any(|change| releases(*change, page))
 }
@@ -47,7 +47,7 @@ fn push_unless(
     is_passed_over: bool,
     number: Number,
 ) -> Result<(), AllocError>
-    ensures { OnOk result (numbers.new.items ≡ numbers.old.items ++ cond is_passed_over [] (number ∷ [])) }
+    ensures { OnOk result (numbers.new.items ≡ numbers.old.items ++ unless is_passed_over number) }
 {
     if !is_passed_over {
         numbers.push(number)?;
@@ -64,7 +64,7 @@ fn add_left(
 ) -> Result<(), AllocError>
     requires { IsChange change }
     ensures { OnOk result (numbers.new.items
-        ≡ numbers.old.items ++ filter_map (left (number_held pages.now) earlier.now) (range_with_len change.first change.count)) }
+        ≡ numbers.old.items ++ left_in pages.now earlier.now change) }
 {
     let end = change.first + change.count;
     let mut next = change.first;
@@ -83,7 +83,8 @@ fn add_released(
     change: Change,
 ) -> Result<(), AllocError>
     requires { IsChange change }
-    ensures { OnOk result (numbers.new.items ≡ numbers.old.items ++ released_by (left (number_held pages.now) earlier.now) change) }
+    ensures { OnOk result (numbers.new.items
+        ≡ numbers.old.items ++ released_after pages.now earlier.now change) }
 {
     if !frees(change.effect) {
         return Ok(());
@@ -98,7 +99,7 @@ pub(crate) fn released(
     changes: &[Change],
 ) -> Result<Vec<Number>, AllocError>
     requires { All IsChange changes.now }
-    ensures { IfOk result (λ numbers. numbers.items ≡ released_of (number_held pages.now) changes.now) }
+    ensures { IfOk result (λ v. v.items ≡ released_of (number_held pages.now) changes.now) }
 {
     let mut numbers = Vec::new(alloc);
     for (place, change) in changes.iter().enumerate() {
@@ -111,7 +112,7 @@ pub(crate) fn released(
 /// Lets go of the pages whose frames and slots a change takes.
 fn clear_one(pages: &mut HeldPages, change: Change)
     requires { IsChange change }
-    ensures { (q : ℕ) → held_at pages.new q ≡ cond (releases change q) None (held_at pages.old q) }
+    ensures { IsClearedOf (releases change) pages.old pages.new }
 {
     match change.effect {
         Effect::Map(_) | Effect::Unmap => clear(pages, change.first, change.first + change.count),
@@ -122,7 +123,7 @@ fn clear_one(pages: &mut HeldPages, change: Change)
 /// Lets go of the pages whose frames and slots changes take.
 pub(crate) fn clear_all(pages: &mut HeldPages, changes: &[Change])
     requires { All IsChange changes.now }
-    ensures { (q : ℕ) → held_at pages.new q ≡ cond (list_any (λ change. releases change q) changes.now) None (held_at pages.old q) }
+    ensures { IsClearedOf (any_releases changes.now) pages.old pages.new }
 {
     for change in changes {
         clear_one(pages, *change);

@@ -1,8 +1,9 @@
 //! Pages that have a frame or a swap slot, by page.
-ghost use Rattle.std.specs.Prelude.{◌≡◌, ℕ, ◌+◌, ◌-◌, ◌<◌, ◌≤◌, length, Some, None, IfOk, IfSome, IfNone, IsSome, OnOk, OnErr};
-ghost use Rattle.std.specs.Option.{option_map};
+ghost use Rattle.std.specs.Prelude.{◌≡◌, ℕ, ◌+◌, ◌-◌, ◌^◌, ◌<◌, ◌≤◌, true, false, length, Some, None, IfOk, IfSome, IfNone, IsSome, OnOk, OnErr};
 ghost use Rattle.space_cells.specs.Cells.{framed, overwritten_page, renumbered_page};
-ghost use Rattle.space_cells.specs.Held.{held_at, numbers_held, Clears, IsFirstHeld, Sets, SetsBoth};
+ghost use Rattle.table_place.specs.Range.{within};
+ghost use Rattle.space_cells.specs.Moving.{ArePlaced};
+ghost use Rattle.space_cells.specs.Held.{held_at, numbers_held, Alters, AreSameOutside, Clears, HoldNone, IsFirstHeld, Sets, SetsBoth};
 
 use corten_base::PageBuf;
 use std::alloc::{AllocError, Global};
@@ -135,7 +136,7 @@ pub(crate) fn put_both(
 
 /// Gives a held page another number.
 pub(crate) fn renumber(pages: &mut HeldPages, page: u64, number: Number)
-    ensures { Sets pages.old pages.new page (option_map (renumbered_page number) (held_at pages.old page)) }
+    ensures { Alters pages.old pages.new page (renumbered_page number) }
 {
     if let Some(held) = pages.get_mut(&page) {
         held.number = number;
@@ -145,7 +146,7 @@ pub(crate) fn renumber(pages: &mut HeldPages, page: u64, number: Number)
 /// Writes bytes over those of a page that has a frame, from a place on.
 pub(crate) fn write(pages: &mut HeldPages, page: u64, place: u32, bytes: &[u8])
     requires { place + length bytes.now ≤ 4096 }
-    ensures { Sets pages.old pages.new page (option_map (overwritten_page place bytes.now) (held_at pages.old page)) }
+    ensures { Alters pages.old pages.new page (overwritten_page place bytes.now) }
 {
     if let Some(held) = pages.get_mut(&page) {
         held.write_at(place, bytes);
@@ -181,6 +182,41 @@ pub(crate) fn clear(pages: &mut HeldPages, first: u64, end: u64)
         let _ = take(pages, page);
         next = page + 1;
     }
+}
+
+/// Holds a copy of a held page at another page.
+fn copy_page(alloc: Global, pages: &mut HeldPages, page: u64, place: u64) -> Result<(), AllocError>
+    requires { IsSome (held_at pages.old page) }
+    ensures ok { OnOk result (Sets pages.old pages.new place (held_at pages.old page)) }
+    ensures err { OnErr result ((q : ℕ) → held_at pages.new q ≡ held_at pages.old q) }
+{
+    let copy = pages.get(&page).unwrap().copy(alloc)?;
+    let _ = put(pages, place, copy)?;
+    Ok(())
+}
+
+/// Holds copies of the held pages of a range at another place, where none is held.
+pub(crate) fn copy_range(
+    alloc: Global,
+    pages: &mut HeldPages,
+    first: u64,
+    count: u64,
+    to: u64,
+) -> Result<(), AllocError>
+    requires pages { first + count ≤ 2 ^ 62 }
+    requires places { to + count ≤ 2 ^ 62 }
+    requires apart { (q : ℕ) → within first count q ≡ true → within to count q ≡ false }
+    requires free { HoldNone to count pages.old }
+    ensures others { AreSameOutside to count pages.old pages.new }
+    ensures placed { OnOk result (ArePlaced first count to pages.old pages.new) }
+{
+    let end = first + count;
+    let mut next = first;
+    while let Some((page, _)) = first_in(pages, next, end) {
+        copy_page(alloc, pages, page, to + (page - first))?;
+        next = page + 1;
+    }
+    Ok(())
 }
 
 /// The same pages, each with bytes of its own.

@@ -5,10 +5,12 @@
 
 mod changes;
 mod held;
+mod moving;
 mod pages;
 mod ranges;
 mod space;
 
 pub use held::{HeldPage, Number};
+pub use moving::Relocation;
 pub use page_runs::{Change, Effect, Mark, Run};
 pub use space::{AddressSpace, PageView};

@@ -1,9 +1,9 @@
 //! Pages that get and lose frames and slots. What their marks say stays.
-ghost use Rattle.std.specs.Prelude.{◌≡◌, ◌+◌, ◌≤◌, length, IfOk, IfSome, IfNone, IsSome, OnOk, OnErr};
-ghost use Rattle.std.specs.Option.{option_map, option_and_then};
+ghost use Rattle.std.specs.Prelude.{◌≡◌, ◌+◌, ◌≤◌, None, length, IfOk, IsSome, OnOk, OnErr};
+ghost use Rattle.std.specs.Option.{option_and_then};
 ghost use Rattle.std.specs.FinMap as map;
-ghost use Rattle.page_map.specs.Change.{change};
-ghost use Rattle.space_cells.specs.Cells.{held_of, overwritten, renumbered, with_held, LetsGo};
+ghost use Rattle.page_map.specs.DontNeed.{given_back};
+ghost use Rattle.space_cells.specs.Cells.{changed_at, held_of, overwritten, renumbered, with_held};
 
 use crate::held::{HeldPage, Number, put, put_both, renumber, take, write};
 use crate::space::AddressSpace;
@@ -15,7 +15,7 @@ impl AddressSpace {
     pub fn hold(&mut self, page: u64, held: HeldPage) -> Result<Option<HeldPage>, AllocError>
         requires { IsSome (map.get self.old page) }
         ensures old { IfOk result (λ old. old ≡ option_and_then held_of (map.get self.old page)) }
-        ensures ok { OnOk result (self.new ≡ change self.old page 1 (λ _. option_map (with_held held))) }
+        ensures ok { OnOk result (self.new ≡ changed_at self.old page (with_held held)) }
         ensures unheld { OnErr result (option_and_then held_of (map.get self.old page) ≡ None) }
         ensures err { OnErr result (self.new ≡ self.old) }
     {
@@ -31,7 +31,7 @@ impl AddressSpace {
         requires near { IsSome (map.get self.old near.0) }
         requires far { IsSome (map.get self.old far.0) }
         ensures ok { OnOk result (self.new
-            ≡ change (change self.old near.0 1 (λ _. option_map (with_held near.1))) far.0 1 (λ _. option_map (with_held far.1))) }
+            ≡ changed_at (changed_at self.old near.0 (with_held near.1)) far.0 (with_held far.1)) }
         ensures err { OnErr result (self.new ≡ self.old) }
     {
         put_both(&mut self.pages, near, far)
@@ -40,15 +40,14 @@ impl AddressSpace {
     /// Takes the frame or slot of a page, which is what it came from again.
     pub fn let_go(&mut self, page: u64) -> Option<HeldPage>
         ensures held { result ≡ option_and_then held_of (map.get self.old page) }
-        ensures some { IfSome result (λ _. LetsGo page self.old self.new) }
-        ensures none { IfNone result (self.new ≡ self.old) }
+        ensures cells { self.new ≡ given_back page 1 self.old }
     {
         take(&mut self.pages, page)
     }
 
     /// Gives a page that has a frame or a slot another one.
     pub fn set_number(&mut self, page: u64, number: Number)
-        ensures { self.new ≡ change self.old page 1 (λ _. option_map (renumbered number)) }
+        ensures { self.new ≡ changed_at self.old page (renumbered number) }
     {
         renumber(&mut self.pages, page, number);
     }
@@ -56,7 +55,7 @@ impl AddressSpace {
     /// Writes bytes over those of a page, from a place on, if it has a frame.
     pub fn write_at(&mut self, page: u64, place: u32, bytes: &[u8])
         requires { place + length bytes.now ≤ 4096 }
-        ensures { self.new ≡ change self.old page 1 (λ _. option_map (overwritten place bytes.now)) }
+        ensures { self.new ≡ changed_at self.old page (overwritten place bytes.now) }
     {
         write(&mut self.pages, page, place, bytes);
     }

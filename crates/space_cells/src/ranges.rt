@@ -1,13 +1,11 @@
 //! Ranges of pages that are mapped, unmapped and protected, and copies of a space.
-ghost use Rattle.std.specs.Prelude.{◌≡◌, ◌+◌, ◌-◌, ◌<◌, ◌^◌, Some, None, IfOk, OnOk, OnErr};
+ghost use Rattle.std.specs.Prelude.{◌≡◌, ◌+◌, ◌<◌, ◌^◌, None, IfOk, OnOk, OnErr};
 ghost use Rattle.std.specs.List.{All};
-ghost use Rattle.std.specs.Option.{option_map};
-ghost use Rattle.page_map.specs.Cell.{with_perm};
 ghost use Rattle.page_map.specs.Change.{change};
-ghost use Rattle.page_map.specs.Mapping.{backed};
+ghost use Rattle.page_map.specs.DontNeed.{given_back};
 ghost use Rattle.page_runs.specs.Mark.{index_of};
 ghost use Rattle.page_runs.specs.Changes.{IsChange};
-ghost use Rattle.space_cells.specs.Cells.{numbers_in};
+ghost use Rattle.space_cells.specs.Cells.{mapped_at, numbers_in, protected_at};
 ghost use Rattle.space_cells.specs.Changes.{all_released, cells_after_all};
 
 use crate::changes::{clear_all, released};
@@ -23,8 +21,8 @@ impl AddressSpace {
         requires some { 0 < run.count }
         requires pages { run.first + run.count < 2 ^ 64 }
         requires indexes { index_of run.mark.backing + run.count < 2 ^ 64 }
-        ensures released { IfOk result (λ released. released.items ≡ numbers_in self.old run.first run.count) }
-        ensures ok { OnOk result (self.new ≡ change self.old run.first run.count (λ page _. Some (backed run.mark.backing run.mark.perm (page - run.first)))) }
+        ensures released { IfOk result (λ v. v.items ≡ numbers_in self.old run.first run.count) }
+        ensures ok { OnOk result (self.new ≡ mapped_at self.old run) }
         ensures err { OnErr result (self.new ≡ self.old) }
     {
         let end = run.first + run.count;
@@ -42,7 +40,7 @@ impl AddressSpace {
         count: u64,
     ) -> Result<Vec<Number>, AllocError>
         requires { first + count < 2 ^ 64 }
-        ensures released { IfOk result (λ released. released.items ≡ numbers_in self.old first count) }
+        ensures released { IfOk result (λ v. v.items ≡ numbers_in self.old first count) }
         ensures ok { OnOk result (self.new ≡ change self.old first count (λ _ _. None)) }
         ensures err { OnErr result (self.new ≡ self.old) }
     {
@@ -53,10 +51,28 @@ impl AddressSpace {
         Ok(released)
     }
 
+    /// Gives the frames and slots of a range's pages back, and answers their numbers: the pages are what they came from again.
+    pub fn give_back(
+        &mut self,
+        alloc: Global,
+        first: u64,
+        count: u64,
+    ) -> Result<Vec<Number>, AllocError>
+        requires { first + count < 2 ^ 64 }
+        ensures released { IfOk result (λ v. v.items ≡ numbers_in self.old first count) }
+        ensures ok { OnOk result (self.new ≡ given_back first count self.old) }
+        ensures err { OnErr result (self.new ≡ self.old) }
+    {
+        let end = first + count;
+        let released = numbers(alloc, &self.pages, first, end)?;
+        clear(&mut self.pages, first, end);
+        Ok(released)
+    }
+
     /// Gives the pages of a range that have cells other permissions.
     pub fn protect(&mut self, first: u64, count: u64, perm: Perm) -> Result<(), AllocError>
         requires { first + count < 2 ^ 64 }
-        ensures ok { OnOk result (self.new ≡ change self.old first count (λ _. option_map (with_perm perm))) }
+        ensures ok { OnOk result (self.new ≡ protected_at self.old first count perm) }
         ensures err { OnErr result (self.new ≡ self.old) }
     {
         self.marks.protect(first, count, perm)
@@ -66,7 +82,7 @@ impl AddressSpace {
     /// frames and slots that the mapped and unmapped pages had.
     pub fn apply(&mut self, alloc: Global, changes: &[Change]) -> Result<Vec<Number>, AllocError>
         requires { All IsChange changes.now }
-        ensures released { IfOk result (λ released. released.items ≡ all_released self.old changes.now) }
+        ensures released { IfOk result (λ v. v.items ≡ all_released self.old changes.now) }
         ensures ok { OnOk result (self.new ≡ cells_after_all self.old changes.now) }
         ensures err { OnErr result (self.new ≡ self.old) }
     {

@@ -4,6 +4,7 @@ ghost use Rattle.std.specs.Option.{option_map};
 ghost use Rattle.std.specs.FinMap as map;
 ghost use Rattle.page_map.specs.Cell.{status_of};
 ghost use Rattle.page_map.specs.Change.{earliest, least};
+ghost use Rattle.page_map.specs.Cutting.{IsPiece};
 ghost use Rattle.page_map.specs.Mapping.{arena_first, gap};
 ghost use Rattle.plain_counts.specs.Fronts.{IsFull};
 ghost use Rattle.space_cells.specs.Cells.{bytes_of, numbered_page};
@@ -135,6 +136,19 @@ impl AddressSpace {
         ensures { result ≡ earliest first (end - first) (numbered_page self.now) }
     {
         first_in(&self.pages, first, end)
+    }
+
+    /// How many pages of a range go on from its first one, which has no frame or slot; 1 where it has one. The page behind
+    /// them does not go on from the last.
+    pub fn stretch(&self, first: u64, end: u64) -> u64
+        requires { first < end }
+        ensures { IsPiece (λ count. first) (λ (count : ℕ). count) self.now first end result }
+    {
+        let alike = self.marks.stretch(first, end);
+        match first_in(&self.pages, first, end) {
+            Some((page, _)) => alike.min((page - first).max(1)),
+            None => alike,
+        }
     }
 
     /// How many pages from the beginning of a thread's arena on have cells, where `known` of them are known to.

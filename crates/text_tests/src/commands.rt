@@ -8,13 +8,17 @@ const SCRIPT: &str =
     "frames 2\ntables 8\nswap 1\nthread\nmap 0 any 1 rw- zero\nstore 0 0x8000000000 6869\nload 0 0x8000000000 3\n";
 
 const HISTORY: &str =
-    "corten 1\nframes 2\ntables 8\nswap 1\n0 map 0 any 1 rw- zero = at 0x8000000000\n0 store 0 0x8000000000 6869 = ok\n0 load 0 0x8000000000 3 = bytes 686900\nframes 2 free 1 mapped 1\nswap 1 free 1 used 0\ntables 8 linked 4 limbo 0\n";
+    "corten 2\nframes 2\ntables 8\nswap 1\n0 map 0 any 1 rw- zero = at 0x8000000000\n0 store 0 0x8000000000 6869 = ok\n0 load 0 0x8000000000 3 = bytes 686900\nframes 2 free 1 mapped 1\nswap 1 free 1 used 0\ntables 8 linked 4 limbo 0\n";
+
+/// The same with five levels.
+const FIVE: &str =
+    "corten 2\nframes 2\ntables 8\nswap 1\nlevels 5\n0 map 0 any 1 rw- zero = at 0x8000000000\n0 store 0 0x8000000000 6869 = ok\n0 load 0 0x8000000000 3 = bytes 686900\nframes 2 free 1 mapped 1\nswap 1 free 1 used 0\ntables 8 linked 5 limbo 0\n";
 
 /// More tables in limbo than there is room for.
 const ILLEGAL: &str =
     "corten 1\nframes 2\ntables 4\nswap 1\n0 map 0 any 1 rw- zero = at 0x8000000000\nframes 2 free 2 mapped 0\nswap 1 free 1 used 0\ntables 4 linked 4 limbo 1\n";
 
-const USAGE: &str = "usage: cortenmm solo | check | run | load N K | tlb\n";
+const USAGE: &str = "usage: cortenmm solo [5] | check | run [5] | load N K | tlb\n";
 
 /// Devices that move so many bytes a call, and at least one, and whose calls with these numbers fail.
 #[derive(Clone, Copy)]
@@ -62,72 +66,86 @@ const THIRD_WRITE_FAILS: Devices = Devices {
 
 /// A command over a text, and the status and the text that it ends with.
 struct Row {
-    word: &'static str,
+    words: &'static [&'static str],
     text: &'static str,
     devices: Devices,
     status: u8,
     wanted: &'static str,
 }
 
-const ROWS: [Row; 9] = [
+const ROWS: [Row; 11] = [
     Row {
-        word: "solo",
+        words: &["solo"],
         text: SCRIPT,
         devices: BYTEWISE,
         status: 0,
         wanted: HISTORY,
     },
     Row {
-        word: "solo",
-        text: "frames 0\n",
-        devices: LARGE,
-        status: 1,
-        wanted: "bad 1\n",
+        words: &["solo", "5"],
+        text: SCRIPT,
+        devices: BYTEWISE,
+        status: 0,
+        wanted: FIVE,
     },
     Row {
-        word: "sola",
+        words: &["solo", "4"],
         text: SCRIPT,
         devices: LARGE,
         status: 2,
         wanted: USAGE,
     },
     Row {
-        word: "solo",
+        words: &["solo"],
+        text: "frames 0\n",
+        devices: LARGE,
+        status: 1,
+        wanted: "bad 1\n",
+    },
+    Row {
+        words: &["sola"],
+        text: SCRIPT,
+        devices: LARGE,
+        status: 2,
+        wanted: USAGE,
+    },
+    Row {
+        words: &["solo"],
         text: SCRIPT,
         devices: FIRST_READ_FAILS,
         status: 3,
         wanted: "",
     },
     Row {
-        word: "solo",
+        words: &["solo"],
         text: SCRIPT,
         devices: FOURTH_READ_FAILS,
         status: 3,
         wanted: "",
     },
     Row {
-        word: "solo",
+        words: &["solo"],
         text: SCRIPT,
         devices: FIRST_WRITE_FAILS,
         status: 4,
         wanted: "",
     },
     Row {
-        word: "solo",
+        words: &["solo"],
         text: SCRIPT,
         devices: THIRD_WRITE_FAILS,
         status: 4,
-        wanted: "corten 1\nframes 2\ntables 8\nswap ",
+        wanted: "corten 2\nframes 2\ntables 8\nswap ",
     },
     Row {
-        word: "check",
+        words: &["check"],
         text: HISTORY,
         devices: BYTEWISE,
         status: 0,
         wanted: "legal 3\n",
     },
     Row {
-        word: "check",
+        words: &["check"],
         text: ILLEGAL,
         devices: LARGE,
         status: 6,
@@ -149,22 +167,24 @@ fn sink_of(alloc: Global, devices: Devices) -> Result<MemSink, AllocError> {
 }
 
 /// The words of a command.
-fn words_of(alloc: Global, word: &str) -> Result<Vec<String>, AllocError> {
+fn words_of(alloc: Global, texts: &[&str]) -> Result<Vec<String>, AllocError> {
     let mut words = Vec::new(alloc);
-    words.push(String::from_str(alloc, word)?)?;
+    for text in texts {
+        words.push(String::from_str(alloc, text)?)?;
+    }
     Ok(words)
 }
 
 /// Whether a command over a text ends with this status and writes this.
 fn ends_with(
     alloc: Global,
-    word: &str,
+    words: &[&str],
     text: &[u8],
     devices: Devices,
     status: u8,
     wanted: &[u8],
 ) -> Result<bool, AllocError> {
-    let words = words_of(alloc, word)?;
+    let words = words_of(alloc, words)?;
     let mut source = source_of(alloc, text, devices)?;
     let mut sink = sink_of(alloc, devices)?;
     let found = corten_plain(alloc, words.as_slice(), &mut source, &mut sink);
@@ -175,7 +195,7 @@ fn ends_with(
 fn holds(alloc: Global, row: &Row) -> Result<bool, AllocError> {
     let text = row.text.as_bytes();
     let wanted = row.wanted.as_bytes();
-    ends_with(alloc, row.word, text, row.devices, row.status, wanted)
+    ends_with(alloc, row.words, text, row.devices, row.status, wanted)
 }
 
 #[test]
@@ -190,7 +210,7 @@ fn commands_end_with_their_status(rt: HostRuntime) -> Result<(), Fail> {
 fn is_cut_refused(alloc: Global, text: &[u8]) -> Result<bool, AllocError> {
     let newlines = text.iter().filter(|byte| **byte == b'\n').count();
     let wanted = format!(in alloc; "bad {}\n", newlines as u64 + 1)?;
-    ends_with(alloc, "check", text, LARGE, 1, wanted.as_bytes())
+    ends_with(alloc, &["check"], text, LARGE, 1, wanted.as_bytes())
 }
 
 #[test]

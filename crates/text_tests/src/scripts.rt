@@ -8,12 +8,19 @@ use std::test::Fail;
 fn has_counts(alloc: Global, text: &str, wanted: &[u64]) -> Result<bool, ScriptFault> {
     let script = read_script(alloc, text.as_bytes())?;
     let Limits {
+        levels,
         frames,
         tables,
         swap,
     } = script.limits;
     let mut counts = Vec::new(alloc);
-    for number in [frames, tables, swap, u32::from(script.shelf.count())] {
+    for number in [
+        u32::from(levels),
+        frames,
+        tables,
+        swap,
+        u32::from(script.shelf.count()),
+    ] {
         counts.push(u64::from(number))?;
     }
     for thread in script.threads.list() {
@@ -27,11 +34,11 @@ fn scripts_are_read(rt: HostRuntime) -> Result<(), Fail> {
     for (text, counts) in [
         (
             "frames 2\n\ntables 8\n# no swap\nswap 0\nthread\nmap 0 any 1 rw- zero\nstore 0 0x8000000000 6869\n",
-            [2, 8, 0, 0, 2].as_slice(),
+            [4, 2, 8, 0, 0, 2].as_slice(),
         ),
         (
             "frames 2\ntables 8\nswap 1\nfile 68656c6c6f\n# no byte\nfile -\nthread\nthread\nspawn\n",
-            [2, 8, 1, 2, 0, 1].as_slice(),
+            [4, 2, 8, 1, 2, 0, 1].as_slice(),
         ),
     ] {
         assert!(rt; has_counts(rt.alloc(), text, counts)?, "{text}");
@@ -93,6 +100,8 @@ fn call_lines_are_read_and_printed(rt: HostRuntime) -> Result<(), Fail> {
         "exit 63",
         "out 0 0x8000000000 4096",
         "in 1 0x8000000000 8192",
+        "dontneed 0 0x8000000000 18446744073709551615",
+        "remap 63 0x8000000000 0 18446744073709551615",
         "txn 0 0x8000000000 8192 map new 0x8000000000 4096 rw- zero ; unmap 0x8000001000 1",
         "txn 63 0x0 0 protect 0x0 18446744073709551615 --x",
         "txn 0 0x0 0 map at 0x0 1 r-- file 3 7 ; map at 0x0 1 --- zero",
@@ -137,6 +146,11 @@ fn spellings_of_no_call(rt: HostRuntime) -> Result<(), Fail> {
         "exit 0 0",
         "out 0 0x0",
         "in 0 0 1",
+        "dontneed 0 0x0",
+        "dontneed 0 0x0 1 r--",
+        "remap 0 0x0 1",
+        "remap 0 0x0 1 0x1",
+        "remap 0 0x0 1 1 1",
         "txn 0 0x10000 4096",
         "txn 0 0x10000 4096 unmap 0x10000 1 ;",
         "txn 0 0x10000 4096 unmap 0x10000 1 unmap 0x10000 1",

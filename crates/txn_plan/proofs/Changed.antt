@@ -1,11 +1,11 @@
 -- Operations as changes: they leave the same cells.
-use Rattle.std.proofs.Common.{◌≡◌, ℕ, ◌+◌, ◌^◌, ◌<◌, List, [], ◌∷◌, refl, ap, ◌∙◌, arith}
+use Rattle.std.proofs.Common.{◌≡◌, ◌+◌, ◌^◌, ◌<◌, List, [], ◌∷◌, refl, ap, ◌∙◌, arith}
 use Rattle.std.specs.Prelude.{map}
 use Rattle.std.specs.List.{All}
 use Rattle.std.proofs.lemmas.List.Elements.{All-cons, All-head, All-tail, All-map}
 use Rattle.corten_base.specs.declared.calls.TxnOp.{TxnOp}
 use Rattle.corten_base.specs.declared.calls.TxnOp.TheVariants as op
-use Rattle.page_map.specs.Mapping.{op_first, op_pages, after_op, after_ops}
+use Rattle.page_map.specs.Mapping.{op_pages, after_op, after_ops}
 use Rattle.page_map.specs.State.{AddressSpace}
 use Rattle.page_runs.specs.Changes.{IsChange}
 use Rattle.space_cells.specs.Changes.{cells_after, cells_after_all}

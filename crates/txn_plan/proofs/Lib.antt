@@ -3,6 +3,5 @@ pub mod Leasts
 pub mod Judging
 pub mod Needing
 pub mod Changed
-pub mod Added
 pub mod Unmapping
 pub mod Rights

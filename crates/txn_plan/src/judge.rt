@@ -19,7 +19,8 @@ fn first_mapped(
     end: u64,
 ) -> Option<u64>
     requires { first ≤ end }
-    ensures { result ≡ cond fresh (least first (end - first) (λ page. is_some (map.get (after_ops done.now cells.now) page))) None }
+    ensures { result ≡ cond fresh (least first (end - first)
+        (λ page. is_some (map.get (after_ops done.now cells.now) page))) None }
 {
     if fresh {
         least_after(cells, done, true, first, end)
@@ -30,7 +31,7 @@ fn first_mapped(
 
 /// Why an operation whose arguments are right is refused after these operations.
 fn refused_after(cells: &AddressSpace, done: &[TxnOp], op: &TxnOp) -> Option<Why>
-    requires { op_first op.now + op_pages op.now < 2 ^ 36 }
+    requires { op_first op.now + op_pages op.now < 2 ^ 45 }
     ensures { result ≡ refused_op op.now (after_ops done.now cells.now) }
 {
     let first = first_page(op);
@@ -50,15 +51,19 @@ fn refused_after(cells: &AddressSpace, done: &[TxnOp], op: &TxnOp) -> Option<Why
 
 /// Why an operation is refused after these operations. It has to keep to a range.
 fn why_undone(
+    levels: u8,
     cells: &AddressSpace,
     shelf: &Shelf,
     range: Range,
     done: &[TxnOp],
     op: &TxnOp,
 ) -> Option<Why>
-    ensures { result ≡ why_undone (is_right_within 4 shelf.now range.first range.count) op.now (after_ops done.now cells.now) }
+    requires four { 4 ≤ levels }
+    requires five { levels ≤ 5 }
+    ensures { result ≡ why_undone (is_right_within levels shelf.now range.first range.count) op.now
+        (after_ops done.now cells.now) }
 {
-    if is_right_within(shelf, range, op) {
+    if is_right_within(levels, shelf, range, op) {
         refused_after(cells, done, op)
     } else {
         Some(Why::Einval)
@@ -68,17 +73,21 @@ fn why_undone(
 /// The first operation that is refused, counted from 1, and why. Each is judged on what those before it would leave,
 /// and has to keep to the range. No page is made for it.
 pub fn first_undone(
+    levels: u8,
     cells: &AddressSpace,
     shelf: &Shelf,
     range: Range,
     ops: &[TxnOp],
 ) -> Option<(u8, Why)>
-    requires { length ops.now ≤ 16 }
-    ensures { result ≡ undone (is_right_within 4 shelf.now range.first range.count) 1 ops.now cells.now }
+    requires four { 4 ≤ levels }
+    requires five { levels ≤ 5 }
+    requires few { length ops.now ≤ 16 }
+    ensures { result ≡ undone (is_right_within levels shelf.now range.first range.count) 1
+        ops.now cells.now }
 {
     for (place, op) in ops.iter().enumerate() {
         let (done, _) = ops.split_at(place);
-        if let Some(why) = why_undone(cells, shelf, range, done, op) {
+        if let Some(why) = why_undone(levels, cells, shelf, range, done, op) {
             return Some((place as u8 + 1, why));
         }
     }

@@ -1,9 +1,8 @@
 //! What a transaction on the plain machine wants: which of its operations is refused first, the page tables that it
-//! needs, and the cells after it. A transaction is judged, and its tables are counted, in the time of what is there and
-//! of at most 33 pieces for each operation or level.
+//! needs, and the cells after it. A transaction is judged in the time of what is there and of at most 33 pieces for each
+//! operation, and its tables are listed in the time of its operations and the levels.
 #![tactic(auto)]
 
-mod adding;
 mod changes;
 mod committing;
 mod forgetting;
@@ -15,5 +14,5 @@ mod pieces;
 pub use committing::commit;
 pub use forgetting::forget_unmapped;
 pub use judge::first_undone;
-pub use need::tables_needed;
-pub use operation::is_mappable;
+pub use need::missing_tables;
+pub use operation::{is_length, is_mappable};

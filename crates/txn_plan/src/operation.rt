@@ -1,14 +1,11 @@
 //! One operation of a transaction.
-ghost use Rattle.std.specs.Prelude.{◌≡◌, ◌<◌, ◌^◌};
+ghost use Rattle.std.specs.Prelude.{◌≡◌, ◌+◌, ◌*◌, ◌<◌, ◌≤◌, ◌^◌};
 ghost use Rattle.table_place.specs.Place.{is_page_range, pages_of};
-ghost use Rattle.page_map.specs.Mapping.{op_at, op_first, op_len, op_pages, is_backing, is_mappable, is_right, is_right_within};
+ghost use Rattle.page_map.specs.Mapping.{op_at, op_first, op_len, op_pages, is_backing, is_length, is_mappable, is_right, is_right_within};
 ghost use Rattle.txn_plan.specs.Covers.{presence_after, covered_by};
 
 use corten_base::{Backing, Range, TxnOp};
 use file_shelf::Shelf;
-
-/// The greatest length of a mapping, half of the address space.
-const GREATEST_LEN: u64 = 1 << 47;
 
 /// The greatest index of a page in a file.
 const GREATEST_INDEX: u64 = 1 << 40;
@@ -82,6 +79,15 @@ pub(crate) fn covered_by(op: &TxnOp, page: u64) -> Option<bool>
     }
 }
 
+/// The greatest length of a mapping, half of the address space of 4 or 5 levels.
+fn greatest_len(levels: u8) -> u64
+    requires four { 4 ≤ levels }
+    requires five { levels ≤ 5 }
+    ensures { result ≡ 2 ^ (9 * levels + 11) }
+{
+    if levels == 4 { 1 << 47 } else { 1 << 56 }
+}
+
 /// Whether there is a file of its number, and its index is in bounds.
 fn is_backing(shelf: &Shelf, backing: Backing) -> bool
     ensures { result ≡ is_backing shelf.now backing }
@@ -92,23 +98,38 @@ fn is_backing(shelf: &Shelf, backing: Backing) -> bool
     }
 }
 
-/// Whether a mapping may have a length in bytes, and what stands behind its pages.
-pub fn is_mappable(shelf: &Shelf, len: u64, backing: Backing) -> bool
-    ensures { result ≡ is_mappable 4 shelf.now len backing }
+/// Whether a mapping may have a length in bytes.
+pub fn is_length(levels: u8, len: u64) -> bool
+    requires four { 4 ≤ levels }
+    requires five { levels ≤ 5 }
+    ensures { result ≡ is_length levels len }
 {
-    len > 0 && len <= GREATEST_LEN && is_backing(shelf, backing)
+    len > 0 && len <= greatest_len(levels)
+}
+
+/// Whether a mapping may have a length in bytes, and what stands behind its pages.
+pub fn is_mappable(levels: u8, shelf: &Shelf, len: u64, backing: Backing) -> bool
+    requires four { 4 ≤ levels }
+    requires five { levels ≤ 5 }
+    ensures { result ≡ is_mappable levels shelf.now len backing }
+{
+    is_length(levels, len) && is_backing(shelf, backing)
 }
 
 /// Whether a range is one of user pages.
-fn is_page_range(at: u64, len: u64) -> bool
-    ensures { result ≡ is_page_range 4 at len }
+fn is_page_range(levels: u8, at: u64, len: u64) -> bool
+    requires four { 4 ≤ levels }
+    requires five { levels ≤ 5 }
+    ensures { result ≡ is_page_range levels at len }
 {
-    Range::of_bytes(at, len).is_some()
+    Range::of_bytes(at, len, levels).is_some()
 }
 
 /// Whether its arguments are right.
-fn is_right(shelf: &Shelf, op: &TxnOp) -> bool
-    ensures { result ≡ is_right 4 shelf.now op.now }
+fn is_right(levels: u8, shelf: &Shelf, op: &TxnOp) -> bool
+    requires four { 4 ≤ levels }
+    requires five { levels ≤ 5 }
+    ensures { result ≡ is_right levels shelf.now op.now }
 {
     match op {
         TxnOp::Map {
@@ -116,18 +137,20 @@ fn is_right(shelf: &Shelf, op: &TxnOp) -> bool
             len,
             backing,
             ..
-        } => is_mappable(shelf, *len, *backing) && is_page_range(*at, *len),
-        TxnOp::Unmap { at, len } => is_page_range(*at, *len),
-        TxnOp::Protect { at, len, .. } => is_page_range(*at, *len),
+        } => is_mappable(levels, shelf, *len, *backing) && is_page_range(levels, *at, *len),
+        TxnOp::Unmap { at, len } => is_page_range(levels, *at, *len),
+        TxnOp::Protect { at, len, .. } => is_page_range(levels, *at, *len),
     }
 }
 
 /// Whether its arguments are right, and its range keeps to this one.
-pub(crate) fn is_right_within(shelf: &Shelf, range: Range, op: &TxnOp) -> bool
-    ensures { result ≡ is_right_within 4 shelf.now range.first range.count op.now }
+pub(crate) fn is_right_within(levels: u8, shelf: &Shelf, range: Range, op: &TxnOp) -> bool
+    requires four { 4 ≤ levels }
+    requires five { levels ≤ 5 }
+    ensures { result ≡ is_right_within levels shelf.now range.first range.count op.now }
 {
     let first = first_page(op);
-    is_right(shelf, op)
+    is_right(levels, shelf, op)
         && range.first() <= first
         && first + page_count(op) <= range.first() + range.count()
 }

@@ -16,7 +16,8 @@ pub(crate) fn nearer(first: u64, count: u64, place: u64, edge: u64) -> u64
     requires behind { place < edge }
     ensures behind { place < result }
     ensures before { result ≤ edge }
-    ensures same { (q : ℕ) → place ≤ q → q < result → within first count q ≡ within first count place }
+    ensures same { (q : ℕ) → place ≤ q → q < result
+        → within first count q ≡ within first count place }
 {
     let end = first + count;
     if place < first && first < edge {
@@ -56,7 +57,8 @@ pub(crate) fn next_edge(ops: &[TxnOp], page: u64, end: u64) -> u64
 /// The least page of a range that has a cell, or the least that has none.
 fn least_there(cells: &AddressSpace, present: bool, first: u64, end: u64) -> Option<u64>
     requires { first ≤ end }
-    ensures { result ≡ least first (end - first) (λ page. is_as present (is_some (map.get cells.now page))) }
+    ensures { result ≡ least first (end - first)
+        (λ page. is_as present (is_some (map.get cells.now page))) }
 {
     if present {
         cells.next(first, end)
@@ -75,7 +77,8 @@ fn least_in_piece(
 ) -> Option<u64>
     requires some { first < end }
     requires same { (q : ℕ) → first ≤ q → q < end → covered ops.now q ≡ covered ops.now first }
-    ensures { result ≡ least first (end - first) (λ page. is_as present (is_some (map.get (after_ops ops.now cells.now) page))) }
+    ensures { result ≡ least first (end - first)
+        (λ page. is_as present (is_some (map.get (after_ops ops.now cells.now) page))) }
 {
     match covered(ops, first) {
         Some(settled) => {
@@ -98,7 +101,8 @@ pub(crate) fn least_after(
     end: u64,
 ) -> Option<u64>
     requires { first ≤ end }
-    ensures { result ≡ least first (end - first) (λ page. is_as present (is_some (map.get (after_ops ops.now cells.now) page))) }
+    ensures { result ≡ least first (end - first)
+        (λ page. is_as present (is_some (map.get (after_ops ops.now cells.now) page))) }
 {
     let mut next = first;
     while next < end {

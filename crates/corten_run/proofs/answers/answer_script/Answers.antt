@@ -18,4 +18,4 @@ returns-in-Err-Bad-clause-ends g c =
       write_faults = faults c.args.sink.now;
       write_faults_now = faults c.refuse.new.sink;
     } in
-    refusal_ends Solo c.args.bytes.now c.in-Err-Bad.line sides c.refuse.result c.requires (rw c.in-Err-Bad.field-0-is at c.in-Err-Bad.ensures.none) (rw c.in-Err-Bad.field-0-is at c.in-Err-Bad.ensures.bad) c.refuse.ensures
+    refusal_ends (Solo c.args.levels) c.args.bytes.now c.in-Err-Bad.line sides c.refuse.result c.requires (rw c.in-Err-Bad.field-0-is at c.in-Err-Bad.ensures.none) (rw c.in-Err-Bad.field-0-is at c.in-Err-Bad.ensures.bad) (rw c.in-Err-Bad.field-0-is at c.refuse.ensures)

@@ -1,8 +1,8 @@
--- The one word is `solo`, `check` or `tlb`.
+-- The one word is `solo`, `check` or `tlb`, or the two are `solo` and `5`.
 use Rattle.std.proofs.Common.{[], ◌∷◌, ap, sym, ◌∙◌}
 use Rattle.std.specs.String.{string_bytes}
 use lib.Pointwise.{bytes_decides}
-use Rattle.corten_run.proofs.Single.{map_single}
+use Rattle.corten_run.proofs.Single.{map_single, map_pair}
 use Rattle.corten_run.proofs.command.read_command.Goals as goal
 
 pub returns-in-len1-clause-found : goal.returns-in-len1-clause-found
@@ -19,3 +19,9 @@ pub returns-in-len1-3-clause-found : goal.returns-in-len1-3-clause-found
 returns-in-len1-3-clause-found c =
     map_single string_bytes c.args.words.now c.word-item-then-words-lt2-2.result c.in-len1.len_at_least c.in-len1.len_below c.word-item-then-words-lt2-2.is
     ∙ ap (λ text. text ∷ []) (sym c.as_str-then-words-lt2-2.ensures.value ∙ (bytes_decides _ _).0 (sym c.eq-then-words-lt2-2.ensures ∙ c.if-eq-3.true))
+
+pub returns-in-len2-clause-found : goal.returns-in-len2-clause-found
+returns-in-len2-clause-found c =
+    map_pair string_bytes c.args.words.now c.word-item-then-words-lt3.result c.levels-item.result c.in-len2.len_at_least c.in-len2.len_below c.word-item-then-words-lt3.is c.levels-item.is
+    ∙ ap (λ text. text ∷ string_bytes c.levels-item.result ∷ []) (sym c.as_str-then-words-lt3.ensures.value ∙ (bytes_decides _ _).0 (sym c.eq-then-words-lt3.ensures ∙ c.if-eq-4.true))
+    ∙ ap (λ text. (115 ∷ 111 ∷ 108 ∷ 111 ∷ []) ∷ text ∷ []) (sym c.as_str-then-eq-4.ensures.value ∙ (bytes_decides _ _).0 (sym c.eq-then-eq-4.ensures ∙ c.if-eq-5.true))

@@ -6,6 +6,6 @@ use Rattle.corten_run.proofs.laws.the_text_of_solo_is_a_history_text.Goals as go
 pub returns : goal.returns
 unfolding solo_text
 returns c = record {
-  text = λ script h. record { has_text = solo_has_text script h; whole = refl };
-  judged = λ script h. (solo_is_legal script h, refl);
+  text = λ levels script h. record { has_text = solo_has_text levels script h; whole = refl };
+  judged = λ levels script h. (solo_is_legal levels script h, refl);
 }

@@ -1,10 +1,10 @@
 -- Other words name no command; the status is that of the ending.
 use Rattle.corten_run.specs.declared.command.Command.TheVariants.{Solo, Check, Tlb}
-use Rattle.corten_run.proofs.Told.{refused_named, judged_named, answered_named, one_command}
+use Rattle.corten_run.proofs.Told.{told_named, done_named, refused_named, judged_named, answered_named, one_command}
 use Rattle.corten_run.proofs.top.corten_plain.Goals as goal
 
 pub returns-in_default-clause-complete : goal.returns-in_default-clause-complete
-returns-in_default-clause-complete g c = λ script named quiet silent. absurd (c.in_default.ensures.none Solo named)
+returns-in_default-clause-complete g c = λ levels script named quiet silent. absurd (c.in_default.ensures.none (Solo levels) named)
 
 pub returns-in_default-clause-judges : goal.returns-in_default-clause-judges
 returns-in_default-clause-judges g c = λ history verdict named quiet silent. absurd (c.in_default.ensures.none Check named)
@@ -17,6 +17,14 @@ returns-in_default-clause-refuses g c = λ command named quiet. absurd (c.in_def
 
 pub returns-in_default-clause-told : goal.returns-in_default-clause-told
 returns-in_default-clause-told g c = λ command named. absurd (c.in_default.ensures.none command named)
+
+pub returns-clause-told : goal.returns-clause-told
+returns-clause-told g c = λ command named.
+    told_named c.in-Some.command command (one_command _ c.in-Some.command command c.in-Some.ensures.found named) _ _ c.serve.result c.status-2.result c.status-2.ensures c.serve.ensures.told
+
+pub returns-clause-complete : goal.returns-clause-complete
+returns-clause-complete g c = λ levels script named quiet silent.
+    done_named c.in-Some.command levels (one_command _ c.in-Some.command (Solo levels) c.in-Some.ensures.found named) _ script _ c.serve.result c.status-2.result c.status-2.ensures c.serve.ensures.told quiet silent
 
 pub returns-clause-judges : goal.returns-clause-judges
 returns-clause-judges g c = λ history verdict named quiet silent.

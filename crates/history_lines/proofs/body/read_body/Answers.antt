@@ -4,19 +4,19 @@ use Rattle.text_words.specs.Layout.{TextRest}
 use Rattle.text_words.specs.Passing.{Passes, FaultFrom}
 use Rattle.text_words.proofs.Passing.{Passes-line}
 use Rattle.mm_script.specs.ScriptText.{file_lines, AreFiles}
-use Rattle.history_lines.specs.Accounting.{header_lines, frames_line}
+use Rattle.history_lines.specs.Accounting.{head_lines, frames_line}
 use Rattle.history_lines.specs.Files.{IsNextFile, NoFileHere}
-use Rattle.history_lines.specs.HistoryText.{entry_line, IsEntry, AreHistoryLines}
+use Rattle.history_lines.specs.HistoryText.{entry_line, IsEntryOf, AreHistoryLines}
 use Rattle.history_lines.proofs.CountLines.{line_is}
 use Rattle.history_lines.proofs.Bodies.{at_none, more_files, more_are_files, more_entries, body_ends, body_fault, end_fault}
 use Rattle.history_lines.proofs.body.read_body.Goals as goal
 
 pub returns-clause-bad : goal.returns-clause-bad
-returns-clause-bad c = λ limits hl.
+returns-clause-bad c =
     let l = c.loop-line in
-    subst (λ place. FaultFrom AreHistoryLines c.args.lines.now (header_lines limits []) (place + 1)) (sym c.taken-2.ensures.value)
-    (subst (λ place. FaultFrom AreHistoryLines c.args.lines.now (header_lines limits []) (place.taken + 1)) (sym c.in_default.ensures.same)
-    (end_fault c.args.lines.now l.lines limits l.shelf l.entries.items hl l.invariant.are_files l.invariant.are_entries l.invariant.passed c.in_default.ensures.none))
+    subst (λ place. FaultFrom AreHistoryLines c.args.lines.now (head_lines c.args.head) (place + 1)) (sym c.taken-2.ensures.value)
+    (subst (λ place. FaultFrom AreHistoryLines c.args.lines.now (head_lines c.args.head) (place.taken + 1)) (sym c.in_default.ensures.same)
+    (end_fault c.args.lines.now l.lines c.args.head l.shelf l.entries.items c.requires.head l.invariant.are_files l.invariant.are_entries l.invariant.passed c.in_default.ensures.none))
 
 pub loop-line-preserved-then-branch : goal.loop-line-preserved-then-branch
 loop-line-preserved-then-branch c =
@@ -33,7 +33,7 @@ loop-line-preserved-then-branch c =
     }
 
 pub returns-in_default-counts_of-clause-bad : goal.returns-in_default-counts_of-clause-bad
-returns-in_default-counts_of-clause-bad c = λ limits hl.
+returns-in_default-counts_of-clause-bad c =
     let l = c.loop-line in
     let new : TextRest = c.next_line.new.self in
     let line : List ℕ = c.in-Some.line.now in
@@ -41,8 +41,8 @@ returns-in_default-counts_of-clause-bad c = λ limits hl.
     let none = at_none c.in_ok-entry.field-0 _ c.in_default-2.not-Some c.in_ok-entry.ensures.none in
     let kept = rw c.if-branch.false at c.in_ok-take_file.ensures.none in
     let no_file : NoFileHere l.shelf l.entries.items line = subst (λ es. NoFileHere l.shelf es line) c.as_slice.ensures.value kept.0 in
-    subst (FaultFrom AreHistoryLines c.args.lines.now (header_lines limits [])) (sym c.taken.ensures.value)
-    (body_fault c.args.lines.now l.lines new limits l.shelf l.entries.items line hl l.invariant.are_files l.invariant.are_entries l.invariant.passed next no_file none c.in_default-counts_of.ensures.none)
+    subst (FaultFrom AreHistoryLines c.args.lines.now (head_lines c.args.head)) (sym c.taken.ensures.value)
+    (body_fault c.args.lines.now l.lines new c.args.head l.shelf l.entries.items line c.requires.head l.invariant.are_files l.invariant.are_entries c.requires.next l.invariant.passed next no_file none c.in_default-counts_of.ensures.none)
 
 pub returns-in_default-2-clause-ok : goal.returns-in_default-2-clause-ok
 returns-in_default-2-clause-ok c =
@@ -76,5 +76,5 @@ loop-line-preserved c =
     rw c.in_ok-push.ensures.items (record {
       passed = subst (λ fs. Passes old new (file_lines fs ++ map entry_line (l.entries.items ++ c.in-Some-2.entry ∷ []))) (sym kept.1) passed;
       are_files = subst AreFiles (sym kept.1) l.invariant.are_files;
-      are_entries = All-push IsEntry l.entries.items c.in-Some-2.entry l.invariant.are_entries found.0;
+      are_entries = All-push (IsEntryOf c.args.head.version) l.entries.items c.in-Some-2.entry l.invariant.are_entries found.0;
     })

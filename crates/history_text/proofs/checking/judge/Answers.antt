@@ -1,8 +1,9 @@
--- What the machine found is said of the history, whose lines before the entries are as many as it has files, and four more.
+-- What the machine found is said of the history.
 use Rattle.std.proofs.Common.{◌≡◌, ◌+◌, ◌≤◌, length, sym, subst, ◌∙◌}
 use Rattle.page_map.specs.State.{State, linked}
 use Rattle.page_map.specs.History.{after}
 use Rattle.history_lines.specs.declared.history.History.{History}
+use Rattle.history_lines.specs.HistoryText.{head_of}
 use Rattle.history_lines.proofs.Closings.{final, final_is_consistent}
 use Rattle.history_lines.proofs.Verdicts.{Found, found_at_entry, found_at_account, none_found}
 use Rattle.history_text.proofs.checking.judge.Goals as goal
@@ -10,7 +11,7 @@ use Rattle.history_text.proofs.checking.judge.Goals as goal
 pub returns-in-Some : goal.returns-in-Some
 returns-in-Some c =
     let h : History = c.args.history.now in
-    subst (λ n. Found h (5 + n + c.in-Some.place)) (sym (c.from-first.ensures ∙ c.count.ensures.value))
+    subst (λ n. Found h (n + c.in-Some.place)) (sym c.first_entry-first.ensures.value)
     (found_at_entry h c.requires.text c.args.plain.now c.list-entries.result.now c.requires.start c.list-entries.ensures c.in-Some.place
     (rw c.in-Some.is at c.in_ok-place.ensures.wrong))
 
@@ -18,7 +19,7 @@ pub returns-in-Some-first_wrong_account : goal.returns-in-Some-first_wrong_accou
 returns-in-Some-first_wrong_account c =
     let h : History = c.args.history.now in
     let right = none_found c.in_ok-place.field-0 _ c.in_default.not-Some c.in_ok-place.ensures.right in
-    subst (λ n. Found h (5 + n + length c.list-entries.result.now + c.in-Some-first_wrong_account.place)) (sym (c.from-first.ensures ∙ c.count.ensures.value))
+    subst (λ n. Found h (n + length c.list-entries.result.now + c.in-Some-first_wrong_account.place)) (sym c.first_entry-first.ensures.value)
     (found_at_account h c.requires.text c.args.plain.now c.first_wrong_entry.new.plain c.list-entries.result.now c.requires.start c.list-entries.ensures right.0 right.1
     c.in-Some-first_wrong_account.place c.in-Some-first_wrong_account.ensures.wrong)
 
@@ -27,4 +28,4 @@ first_wrong_account-requires c =
     let h : History = c.args.history.now in
     let right = none_found c.in_ok-place.field-0 _ c.in_default.not-Some c.in_ok-place.ensures.right in
     let state : c.first_wrong_entry.new.plain ≡ final h.limits h.shelf h.entries = right.1 ∙ (λ j. after (c.requires.start j) (c.list-entries.ensures j)) in
-    subst (λ (s : State). linked s ≤ s.limits.tables) (sym state) (final_is_consistent h.limits h.shelf h.entries c.requires.text.limits c.requires.text.entries).tables
+    subst (λ (s : State). linked s ≤ s.limits.tables) (sym state) (final_is_consistent (head_of h) h.shelf h.entries c.requires.text.head c.requires.text.entries).tables

@@ -11,8 +11,8 @@ use Rattle.mm_script.proofs.call_names.call_name.Goals as goal
 differs : (word tested other : List ℕ) → false ≡ bytes_eq word tested → tested ≡ other → word ≢ other
 differs word tested other apart same are = false≢true (apart ∙ (bytes_eq-Decides word tested).1 (are ∙ sym same))
 
-pub returns-else-eq-12-clause-none : goal.returns-else-eq-12-clause-none
-returns-else-eq-12-clause-none c = go
+pub returns-else-eq-14-clause-none : goal.returns-else-eq-14-clause-none
+returns-else-eq-14-clause-none c = go
   where
     go : (n : CallName) → c.args.word.now ≢ name_word n
     go name.Map = differs c.args.word.now c.as_slice.result.now (codes "map") c.if-eq.ensures c.as_slice.ensures
@@ -27,3 +27,5 @@ returns-else-eq-12-clause-none c = go
     go name.SwapOut = differs c.args.word.now c.as_slice-else-eq-9.result.now (codes "out") c.if-eq-10.ensures c.as_slice-else-eq-9.ensures
     go name.SwapIn = differs c.args.word.now c.as_slice-else-eq-10.result.now (codes "in") c.if-eq-11.ensures c.as_slice-else-eq-10.ensures
     go name.Txn = differs c.args.word.now c.as_slice-else-eq-11.result.now (codes "txn") c.if-eq-12.ensures c.as_slice-else-eq-11.ensures
+    go name.DontNeed = differs c.args.word.now c.as_slice-else-eq-12.result.now (codes "dontneed") c.if-eq-13.ensures c.as_slice-else-eq-12.ensures
+    go name.Remap = differs c.args.word.now c.as_slice-else-eq-13.result.now (codes "remap") c.if-eq-14.ensures c.as_slice-else-eq-13.ensures

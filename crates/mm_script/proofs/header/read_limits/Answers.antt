@@ -1,4 +1,4 @@
-use Rattle.std.proofs.Common.{ℕ, List, [], ◌∷◌, codes, subst}
+use Rattle.std.proofs.Common.{ℕ, List, [], ◌∷◌, codes, refl, subst}
 use Rattle.std.proofs.lemmas.Result.{err_from_is_err_and}
 use Rattle.text_words.specs.Layout.{joined, TextRest}
 use Rattle.mm_script.specs.ScriptText.{limit_words}
@@ -67,6 +67,6 @@ returns-clause-ok c =
     let three = c.in_ok-next_limit-3.ensures.ok in
     let swap_line : List ℕ = joined (limit_words (codes "swap") swap) in
     let behind = Passes-append first second third (tables_line tables ∷ []) (swap_line ∷ []) (passes_limit first second (codes "tables") tables two.1) (passes_limit second third (codes "swap") swap three.1) in (
-      record { frames = one.0; tables = two.0; swap = three.0 },
+      record { numbers = record { frames = one.0; tables = two.0; swap = three.0 }; levels = refl },
       Passes-append old first third (frames_line frames ∷ []) (tables_line tables ∷ swap_line ∷ []) (passes_limit old first (codes "frames") frames one.1) behind,
     )

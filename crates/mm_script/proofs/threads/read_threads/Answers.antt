@@ -7,7 +7,7 @@ use Rattle.corten_base.specs.declared.calls.Call.{Call}
 use Rattle.corten_base.specs.declared.numbers.Limits.{Limits}
 use Rattle.text_words.specs.Layout.{TextRest}
 use Rattle.mm_script.specs.CallLine.{IsCall}
-use Rattle.mm_script.specs.ScriptText.{header_lines, most_threads, AreLimits, AreFiles}
+use Rattle.mm_script.specs.ScriptText.{header_lines, most_threads, AreScriptLimits, AreFiles}
 use Rattle.mm_script.specs.Reading.{FaultFrom}
 use Rattle.mm_script.proofs.Following.{no_call_thread}
 use Rattle.mm_script.proofs.Beginnings.{AreThreads-open}
@@ -15,7 +15,7 @@ use Rattle.mm_script.proofs.ThreadLines.{at_none, no_rest_lines, more_calls, all
 use Rattle.mm_script.proofs.threads.read_threads.Goals as goal
 
 abbrev Faulty : TextRest → ℕ → Type 0
-Faulty old n = (limits : Limits) (files : List (List ℕ)) → AreLimits limits → AreFiles files → FaultFrom old (header_lines limits files ++ codes "thread" ∷ []) n
+Faulty old n = (limits : Limits) (files : List (List ℕ)) → AreScriptLimits limits → AreFiles files → FaultFrom old (header_lines limits files ++ codes "thread" ∷ []) n
 
 one_more : (n m : ℕ) → m ≡ n + 1 → n < most_threads → n + 1 ≢ most_threads → m < most_threads
 one_more n m is few other = omega arith

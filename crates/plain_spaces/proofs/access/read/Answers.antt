@@ -1,4 +1,4 @@
-use Rattle.std.proofs.Common.{◌≡◌, [], ◌+◌, ◌-◌, min, length, take, drop, ap, ◌∙◌, arith}
+use Rattle.std.proofs.Common.{◌≡◌, ◌+◌, ◌-◌, min, length, take, drop, ap, ◌∙◌, arith}
 use Rattle.std.specs.FinMap as map
 use Rattle.corten_base.specs.Bytes.{bytes_after_write}
 use Rattle.page_map.specs.Access.{first_page}

@@ -6,10 +6,10 @@ use Rattle.plain_spaces.proofs.copy.share.Given as goal
 -- the numbers of the pages before `next` have one key more
 abbrev pub invariant-loop-page : goal.invariant-loop-page
 invariant-loop-page l = record {
-  high : l.next ≤ 2 ^ 35;
+  high : l.next ≤ 2 ^ 44;
   frames : Shared frame_in l.initial.counts.frames l.counts.frames l.cells l.next;
   slots : Shared slot_in l.initial.counts.slots l.counts.slots l.cells l.next;
 }
 
 abbrev pub decreases-loop-page : goal.decreases-loop-page
-decreases-loop-page l = 2 ^ 35 - l.next
+decreases-loop-page l = 2 ^ 44 - l.next

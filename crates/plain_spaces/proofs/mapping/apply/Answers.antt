@@ -1,4 +1,4 @@
-use Rattle.std.proofs.Common.{◌≡◌, sym, subst, ◌∙◌}
+use Rattle.std.proofs.Common.{sym, subst, ◌∙◌}
 use Rattle.plain_counts.specs.Counts.{Follow}
 use Rattle.plain_spaces.specs.Numbers.{AreCarried, LeaveAll}
 use Rattle.plain_spaces.proofs.Released.{changes_are_carried, changes_left}

@@ -1,8 +1,5 @@
-use Rattle.std.proofs.Common.{◌≡◌, Some, None, ◌-◌, refl, sym, ap, subst, ◌∙◌}
-use Rattle.page_map.specs.Change.{change}
-use Rattle.page_map.specs.Mapping.{backed}
+use Rattle.std.proofs.Common.{◌-◌, sym, subst, ◌∙◌}
 use Rattle.plain_counts.specs.Counts.{Follow}
-use Rattle.space_cells.specs.Cells.{numbers_in}
 use Rattle.plain_spaces.specs.Numbers.{AreCarried, LeaveAll}
 use Rattle.plain_spaces.proofs.Released.{range_is_carried, range_left, no_numbers}
 use Rattle.plain_spaces.proofs.mapping.map_pages.Goals as goal

@@ -1,10 +1,7 @@
-use Rattle.std.proofs.Common.{◌≡◌, Some, None, ◌-◌, refl, sym, ap, subst, ◌∙◌}
-use Rattle.page_map.specs.Change.{change}
-use Rattle.page_map.specs.Mapping.{backed}
+use Rattle.std.proofs.Common.{refl, sym, subst, ◌∙◌}
 use Rattle.plain_counts.specs.Counts.{Follow}
-use Rattle.space_cells.specs.Cells.{numbers_in}
 use Rattle.plain_spaces.specs.Numbers.{AreCarried, LeaveAll}
-use Rattle.plain_spaces.proofs.Released.{range_is_carried, range_left, no_numbers}
+use Rattle.plain_spaces.proofs.Released.{range_is_carried, range_left}
 use Rattle.plain_spaces.proofs.mapping.unmap_pages.Goals as goal
 
 pub give_up_all-requires : goal.give_up_all-requires

@@ -1,9 +1,9 @@
-use Rattle.std.proofs.Common.{◌≡◌, ◌+◌, ◌*◌, ◌≤◌, length, drop, sym, ap, subst, ◌∙◌, arith}
+use Rattle.std.proofs.Common.{◌*◌, length, drop, ap, subst, ◌∙◌, arith}
 use mathlib.Core.Logic.{inl, inr}
 use Rattle.std.proofs.lemmas.List.{length-take}
 use Rattle.corten_base.specs.Bytes.{bytes_after_write}
 use Rattle.file_shelf.specs.Pages.{IsPage}
-use Rattle.page_map.specs.Cell.{file_bytes, file_page}
+use Rattle.page_map.specs.Cell.{file_bytes}
 use Rattle.plain_spaces.proofs.Files.{bytes_are, zeros_are, no_bytes}
 use Rattle.plain_spaces.proofs.plan.file_body.Goals as goal
 

@@ -1,4 +1,4 @@
-use Rattle.std.proofs.Common.{◌≡◌, sym, ap, subst, ◌∙◌}
+use Rattle.std.proofs.Common.{sym, ap, subst, ◌∙◌}
 use Rattle.std.specs.List.{All}
 use Rattle.page_runs.specs.Changes.{IsChange}
 use Rattle.space_cells.specs.Changes.{cells_after_all}

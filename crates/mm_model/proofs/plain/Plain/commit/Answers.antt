@@ -3,10 +3,12 @@ use Rattle.std.specs.Prelude.{Option, IsSome, Result, Ok, Err, OnErr}
 use Rattle.std.specs.List.{All, flat_map}
 use Rattle.std.specs.Option.{option_copied_mut}
 use Rattle.std.specs.FinMap as map
-use Rattle.std.specs.FinSet as set
-use Rattle.page_map.specs.Effect.{above_op}
+use Rattle.page_map.specs.Effect.{cut_by_op}
 use Rattle.page_map.specs.Mapping.{op_pages, after_ops}
 use Rattle.page_map.specs.State.{State}
+use Rattle.page_map.specs.Tables.{missing}
+use Rattle.plain_counts.specs.Levels.{Lists}
+use Rattle.mm_model.proofs.Lacks.{apart}
 use Rattle.plain_spaces.proofs.Moves.{put_back}
 use Rattle.plain_spaces.proofs.Variants.{some_borrow}
 use Rattle.txn_plan.specs.Changes.{first_index}
@@ -25,7 +27,16 @@ abbrev before : After-get_mut → State
 before c = record { spaces = c.self.inside.spaces; tables = c.self.inside.tables; limits = c.self.inside.limits; files = c.self.inside.shelf }
 
 abbrev may : (c : After-get_mut) → MayCommit (before c) c.args.space c.args.ops.now
-may c = subst (λ st. MayCommit st c.args.space c.args.ops.now) (sym c.self.view_is) c.requires
+may c = subst (λ st. MayCommit st c.args.space c.args.ops.now) (sym c.self.view_is) c.requires.may
+
+-- the tables that it lacks
+lists : (c : After-get_mut) → Lists (missing (flat_map (cut_by_op (before c) c.args.space) c.args.ops.now) (before c).tables) c.args.missing.now
+lists c = subst (λ (st : State). Lists (missing (flat_map (cut_by_op st c.args.space) c.args.ops.now) st.tables) c.args.missing.now) (sym c.self.view_is) c.requires.missing
+
+pub commit-requires-clause-missing : goal.commit-requires-clause-missing
+commit-requires-clause-missing c =
+    let at = (goal.at.commit-requires-clause-missing c).After-get_mut in
+    apart c.self.inside.tables (flat_map (cut_by_op (before at) c.args.space) c.args.ops.now) c.args.missing.now (lists at)
 
 there : {A : Type 0} (r : Option (MutBor A)) → IsSome (option_copied_mut r) → IsSome r
 there None h = h
@@ -43,12 +54,12 @@ unwrap-cells-requires c =
 pub commit-requires-clause-span : goal.commit-requires-clause-span
 commit-requires-clause-span c =
     let at = (goal.at.commit-requires-clause-span c).After-get_mut in
-    subst (λ os. All IsInSpan os) (sym c.ops-list.ensures.value) (may_span (before at) c.args.space c.args.ops.now (may at))
+    subst (λ os. All IsInSpan os) (sym c.ops-list.ensures.value) (may_span (before at) c.args.space c.args.ops.now (may at) c.self.invariant.state.few_levels)
 
 pub commit-requires-clause-index : goal.commit-requires-clause-index
 commit-requires-clause-index c =
     let at = (goal.at.commit-requires-clause-index c).After-get_mut in
-    subst (λ os. All (λ o. first_index o + op_pages o < 2 ^ 64) os) (sym c.ops-list.ensures.value) (may_fit (before at) c.args.space c.args.ops.now (may at))
+    subst (λ os. All (λ o. first_index o + op_pages o < 2 ^ 64) os) (sym c.ops-list.ensures.value) (may_fit (before at) c.args.space c.args.ops.now (may at) c.self.invariant.state.few_levels)
 
 pub commit-requires-clause-counted : goal.commit-requires-clause-counted
 commit-requires-clause-counted c =
@@ -90,7 +101,7 @@ invariant_of-self-2 c =
     subst (λ spaces. IsSound (record st { spaces = spaces; tables = c.commit.new.tables }) c.commit.new.counts c.forget_unmapped.new.fronts) (sym (lent at.After-commit))
     (commit_stays_sound st c.args.space c.args.ops.now (may at.After-get_mut) c.unwrap-cells.result.now c.commit.new.cells c.commit.new.tables (here at.After-unwrap-cells)
     (c.in_ok-commit.ensures.cells ∙ ap (λ os. after_ops os c.unwrap-cells.result.now) list)
-    (c.in_ok-commit.ensures.tables st ∙ (λ i. set.union c.self.inside.tables (set.from_list (flat_map (above_op st (c.number-number.ensures.value i)) (list i)))))
+    (c.in_ok-commit.ensures.tables (flat_map (cut_by_op st c.args.space) c.args.ops.now) (lists at.After-get_mut))
     c.self.inside.counts c.commit.new.counts c.self.inside.fronts c.forget_unmapped.new.fronts c.self.invariant c.in_ok-commit.ensures.counts forgets)
 
 pub returns-clause-ok : goal.returns-clause-ok
@@ -101,5 +112,5 @@ returns-clause-ok c =
     (λ i. record st { spaces = lent at.After-commit i; tables = c.commit.new.tables })
     ∙ next_is st c.args.space c.args.ops.now (may at.After-get_mut) c.unwrap-cells.result.now c.commit.new.cells c.commit.new.tables (here at.After-unwrap-cells)
     (c.in_ok-commit.ensures.cells ∙ ap (λ os. after_ops os c.unwrap-cells.result.now) list)
-    (c.in_ok-commit.ensures.tables st ∙ (λ i. set.union c.self.inside.tables (set.from_list (flat_map (above_op st (c.number-number.ensures.value i)) (list i)))))
+    (c.in_ok-commit.ensures.tables (flat_map (cut_by_op st c.args.space) c.args.ops.now) (lists at.After-get_mut))
     ∙ ap (λ st. after_commit st c.args.space c.args.ops.now) c.self.view_is

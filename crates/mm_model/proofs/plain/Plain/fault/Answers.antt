@@ -10,11 +10,11 @@ touch-requires-clause-call c = (call.Fault c.number.result c.args.at c.args.writ
 
 pub returns-in-Ok-clause-ok : goal.returns-in-Ok-clause-ok
 returns-in-Ok-clause-ok c =
-    made_named c.args.self.now c.touch.new.self (call.Fault c.number.result c.args.at c.args.write) (call.Fault c.args.space c.args.at c.args.write) (λ i. call.Fault (c.number.ensures.value i) c.args.at c.args.write)
+    made_named c.args.self.now c.touch.new.self c.args.limbo (call.Fault c.number.result c.args.at c.args.write) (call.Fault c.args.space c.args.at c.args.write) (λ i. call.Fault (c.number.ensures.value i) c.args.at c.args.write)
     c.number.result (reaching c.args.at 1 c.args.write) (fault_access c.args.self.now c.number.result c.args.at c.args.write) c.in-Ok.ensures.allowed c.in-Ok.ensures.ok reply.Ok
     (λ thread. fault_answer c.args.self.now thread c.number.result c.args.at c.args.write)
 
 pub returns-in-Err-clause-ok : goal.returns-in-Err-clause-ok
 returns-in-Err-clause-ok c =
-    stopped_named c.args.self.now c.touch.new.self (call.Fault c.number.result c.args.at c.args.write) (call.Fault c.args.space c.args.at c.args.write) (λ i. call.Fault (c.number.ensures.value i) c.args.at c.args.write)
+    stopped_named c.args.self.now c.touch.new.self c.args.limbo (call.Fault c.number.result c.args.at c.args.write) (call.Fault c.args.space c.args.at c.args.write) (λ i. call.Fault (c.number.ensures.value i) c.args.at c.args.write)
     c.number.result (reaching c.args.at 1 c.args.write) (fault_access c.args.self.now c.number.result c.args.at c.args.write) c.in-Err.stop c.in-Err.ensures.refused c.in-Err.ensures.kept c.refusal.result c.refusal.ensures

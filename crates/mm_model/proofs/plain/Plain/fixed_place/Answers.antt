@@ -5,58 +5,59 @@ use Rattle.std.specs.FinMap as map
 use Rattle.std.proofs.lemmas.Bool.{ltb-true, and_parts}
 use Rattle.corten_base.specs.declared.calls.TxnOp.TheVariants as op
 use Rattle.corten_base.specs.declared.calls.Why.TheVariants as why
-use Rattle.table_place.specs.Place.{above, is_page_range, pages_of}
+use Rattle.table_place.specs.Place.{is_page_range, pages_of}
 use Rattle.page_map.specs.Change.{least}
 use Rattle.page_map.specs.Mapping.{is_right, refused_op}
 use Rattle.page_map.specs.State.{State, AddressSpace}
 use Rattle.page_map.specs.Step.{refusal}
 use Rattle.page_map.proofs.Least.{least_passes}
-use Rattle.mm_model.specs.Placing.{IsFixed, call_at, tables_lack}
-use Rattle.mm_model.proofs.Fixed.{op_at, op_refused, is_fixed}
+use Rattle.corten_base.specs.declared.calls.Reply.TheVariants as reply
+use Rattle.mm_model.specs.Placing.{IsFixed, call_at}
+use Rattle.mm_model.proofs.Fixed.{op_at, op_refused, fixed_fits}
 use Rattle.mm_model.proofs.OpCalls.{no_range}
-use Rattle.mm_model.proofs.OpSteps.{refused_wrong, refused_absent, refused_by, refused_tables}
+use Rattle.mm_model.proofs.OpSteps.{refused_wrong, refused_absent, refused_by}
 use Rattle.mm_model.proofs.plain.Plain.fixed_place.Goals as goal
-use Rattle.mm_model.proofs.plain.Plain.fixed_place.Goals.{After-is_right, After-of_bytes, After-get, After-mapped_page, After-lack_of_tables}
+use Rattle.mm_model.proofs.plain.Plain.fixed_place.Goals.{After-is_right, After-of_bytes, After-get, After-mapped_page}
 
 -- the state of the machine
 abbrev now : After-is_right → State
 now c = record { spaces = c.self.inside.spaces; tables = c.self.inside.tables; limits = c.self.inside.limits; files = c.self.inside.shelf }
 
 pub returns-then-not-is_right-clause-refused : goal.returns-then-not-is_right-clause-refused
-returns-then-not-is_right-clause-refused c = λ thread.
+returns-then-not-is_right-clause-refused c = λ thread limbo.
     let st = now (goal.at.returns-then-not-is_right-clause-refused c).After-is_right in
     let m = c.args.mapping.now in
-    sym (ap (λ st. refusal st thread (call_at m c.args.at c.args.fresh) c.args.limbo) c.self.view_is)
-    ∙ refused_wrong st (call_at m c.args.at c.args.fresh) m.space (op.Map c.args.at c.args.fresh m.len m.perm m.backing) _ _ _ (op_at st m c.args.at c.args.fresh) thread c.args.limbo
-    (ap (λ b. b && is_page_range 4 c.args.at m.len) (sym c.is_right.ensures ∙ c.if-not-is_right.true))
+    sym (ap (λ st. refusal st thread (call_at m c.args.at c.args.fresh) limbo) c.self.view_is)
+    ∙ refused_wrong st (call_at m c.args.at c.args.fresh) m.space (op.Map c.args.at c.args.fresh m.len m.perm m.backing) (reply.At c.args.at) (op_at st m c.args.at c.args.fresh) thread limbo
+    (ap (λ b. b && is_page_range c.self.inside.limits.levels c.args.at m.len) (sym c.is_right.ensures ∙ c.if-not-is_right.true))
 
 pub returns-in_default-clause-refused : goal.returns-in_default-clause-refused
-returns-in_default-clause-refused c = λ thread.
+returns-in_default-clause-refused c = λ thread limbo.
     let st = now (goal.at.returns-in_default-clause-refused c).After-is_right in
     let m = c.args.mapping.now in
-    sym (ap (λ st. refusal st thread (call_at m c.args.at c.args.fresh) c.args.limbo) c.self.view_is)
-    ∙ refused_wrong st (call_at m c.args.at c.args.fresh) m.space (op.Map c.args.at c.args.fresh m.len m.perm m.backing) _ _ _ (op_at st m c.args.at c.args.fresh) thread c.args.limbo
-    (λ i. (sym c.is_right.ensures ∙ c.if-not-is_right.false) i && no_range (is_page_range 4 c.args.at m.len) c.in_default.ensures.some.1 i)
+    sym (ap (λ st. refusal st thread (call_at m c.args.at c.args.fresh) limbo) c.self.view_is)
+    ∙ refused_wrong st (call_at m c.args.at c.args.fresh) m.space (op.Map c.args.at c.args.fresh m.len m.perm m.backing) (reply.At c.args.at) (op_at st m c.args.at c.args.fresh) thread limbo
+    (λ i. (sym c.is_right.ensures ∙ c.if-not-is_right.false) i && no_range (is_page_range c.self.inside.limits.levels c.args.at m.len) c.in_default.ensures.some.1 i)
 
 -- the arguments are right
-abbrev right : (c : After-get) → is_right 4 c.self.inside.shelf (op.Map c.args.at c.args.fresh c.args.mapping.now.len c.args.mapping.now.perm c.args.mapping.now.backing) ≡ true
+abbrev right : (c : After-get) → is_right c.self.inside.limits.levels c.self.inside.shelf (op.Map c.args.at c.args.fresh c.args.mapping.now.len c.args.mapping.now.perm c.args.mapping.now.backing) ≡ true
 right c = λ i. (sym c.is_right.ensures ∙ c.if-not-is_right.false) i && c.in-Some.ensures.some.0 refl i
 
 pub returns-in_default-get-clause-refused : goal.returns-in_default-get-clause-refused
-returns-in_default-get-clause-refused c = λ thread.
+returns-in_default-get-clause-refused c = λ thread limbo.
     let at = goal.at.returns-in_default-get-clause-refused c in
     let st = now at.After-is_right in
     let m = c.args.mapping.now in
-    sym (ap (λ st. refusal st thread (call_at m c.args.at c.args.fresh) c.args.limbo) c.self.view_is)
-    ∙ refused_absent st (call_at m c.args.at c.args.fresh) m.space (op.Map c.args.at c.args.fresh m.len m.perm m.backing) _ _ _ (op_at st m c.args.at c.args.fresh) thread c.args.limbo
+    sym (ap (λ st. refusal st thread (call_at m c.args.at c.args.fresh) limbo) c.self.view_is)
+    ∙ refused_absent st (call_at m c.args.at c.args.fresh) m.space (op.Map c.args.at c.args.fresh m.len m.perm m.backing) (reply.At c.args.at) (op_at st m c.args.at c.args.fresh) thread limbo
     (right at.After-get) (ap (map.get c.self.inside.spaces) (sym c.number-space.ensures.value) ∙ sym c.get.ensures ∙ ap option_copied c.in_default-get.is)
 
 -- the range and the cells, in the words of the definitions
-abbrev first_is : (c : After-mapped_page) → c.first-first.result ≡ c.args.at / 4096
-first_is c = c.first-first.ensures.value ∙ ap (λ r. r.first) c.in-Some.ensures.value
+abbrev first_is : (c : After-mapped_page) → c.first.result ≡ c.args.at / 4096
+first_is c = c.first.ensures.value ∙ ap (λ r. r.first) c.in-Some.ensures.value
 
-abbrev count_is : (c : After-mapped_page) → c.count-count.result ≡ pages_of c.args.mapping.now.len
-count_is c = c.count-count.ensures.value ∙ ap (λ r. r.count) c.in-Some.ensures.value
+abbrev count_is : (c : After-mapped_page) → c.count.result ≡ pages_of c.args.mapping.now.len
+count_is c = c.count.ensures.value ∙ ap (λ r. r.count) c.in-Some.ensures.value
 
 abbrev here : (c : After-mapped_page) → map.get c.self.inside.spaces c.args.mapping.now.space ≡ Some c.in-Some-get.cells.now
 here c = ap (map.get c.self.inside.spaces) (sym c.number-space.ensures.value) ∙ sym c.in-Some-get.ensures
@@ -78,48 +79,28 @@ found false first count page cells e = absurd (none e)
 
 pub overflow_mul-result : goal.overflow_mul-result
 overflow_mul-result c =
-    let user = c.first-first.ensures.user.user in
-    let below = ltb-true (c.in-Some.range.first + c.in-Some.range.count) (2 ^ 35) (and_parts (nat_le 16 c.in-Some.range.first) (nat_lt (c.in-Some.range.first + c.in-Some.range.count) (2 ^ 35)) user).1 in
-    let at = found c.args.fresh c.first-first.result c.count-count.result c.in-Some-mapped_page.page c.in-Some-get.cells.now c.in-Some-mapped_page.ensures in
-    omega (arith, at, below, c.first-first.ensures.value, c.count-count.ensures.value)
+    let user = c.first.ensures.user.user in
+    let below = ltb-true (c.in-Some.range.first + c.in-Some.range.count) (2 ^ 44) (and_parts (nat_le 16 c.in-Some.range.first) (nat_lt (c.in-Some.range.first + c.in-Some.range.count) (2 ^ 44)) user).1 in
+    let at = found c.args.fresh c.first.result c.count.result c.in-Some-mapped_page.page c.in-Some-get.cells.now c.in-Some-mapped_page.ensures in
+    omega (arith, at, below, c.first.ensures.value, c.count.ensures.value)
 
 pub returns-in-Some-mapped_page-clause-refused : goal.returns-in-Some-mapped_page-clause-refused
-returns-in-Some-mapped_page-clause-refused c = λ thread.
+returns-in-Some-mapped_page-clause-refused c = λ thread limbo.
     let at = goal.at.returns-in-Some-mapped_page-clause-refused c in
     let st = now at.After-is_right in
     let m = c.args.mapping.now in
-    sym (ap (λ st. refusal st thread (call_at m c.args.at c.args.fresh) c.args.limbo) c.self.view_is)
-    ∙ refused_by st (call_at m c.args.at c.args.fresh) m.space (op.Map c.args.at c.args.fresh m.len m.perm m.backing) _ _ _ (op_at st m c.args.at c.args.fresh) thread c.args.limbo
+    sym (ap (λ st. refusal st thread (call_at m c.args.at c.args.fresh) limbo) c.self.view_is)
+    ∙ refused_by st (call_at m c.args.at c.args.fresh) m.space (op.Map c.args.at c.args.fresh m.len m.perm m.backing) (reply.At c.args.at) (op_at st m c.args.at c.args.fresh) thread limbo
     (right at.After-get) c.in-Some-get.cells.now (here at.After-mapped_page) (why.Exists (4096 * c.in-Some-mapped_page.page))
     (refused_is at.After-mapped_page ∙ ap (option_map (λ page. why.Exists (4096 * page))) c.in-Some-mapped_page.is)
-
--- the tables that are missing, in the words of the definitions
-abbrev lacking : (c : After-lack_of_tables) → tables_lack (record { spaces = c.self.inside.spaces; tables = c.self.inside.tables; limits = c.self.inside.limits; files = c.self.inside.shelf })
-    (above 4 c.args.mapping.now.space (c.args.at / 4096) (pages_of c.args.mapping.now.len)) c.args.limbo ≡ c.lack_of_tables.result
-lacking c =
-    (λ i. tables_lack (c.self.view_is i) (above 4 (sym c.number-space.ensures.value i) (sym (c.first-first.ensures.value ∙ ap (λ r. r.first) c.in-Some.ensures.value) i)
-    (sym (c.count-count.ensures.value ∙ ap (λ r. r.count) c.in-Some.ensures.value) i)) c.args.limbo)
-    ∙ sym c.lack_of_tables.ensures
-
-pub returns-in-Some-lack_of_tables-clause-refused : goal.returns-in-Some-lack_of_tables-clause-refused
-returns-in-Some-lack_of_tables-clause-refused c = λ thread.
-    let at = goal.at.returns-in-Some-lack_of_tables-clause-refused c in
-    let st = now at.After-is_right in
-    let m = c.args.mapping.now in
-    sym (ap (λ st. refusal st thread (call_at m c.args.at c.args.fresh) c.args.limbo) c.self.view_is)
-    ∙ refused_tables st (call_at m c.args.at c.args.fresh) m.space (op.Map c.args.at c.args.fresh m.len m.perm m.backing) _ _ _ (op_at st m c.args.at c.args.fresh) thread c.args.limbo
-    (right at.After-get) c.in-Some-get.cells.now (here at.After-mapped_page)
-    (refused_is at.After-mapped_page ∙ ap (option_map (λ page. why.Exists (4096 * page))) c.in_default-mapped_page.is)
-    c.in-Some-lack_of_tables.refused (lacking at.After-lack_of_tables ∙ c.in-Some-lack_of_tables.is)
 
 pub returns-in-None-clause-fixed : goal.returns-in-None-clause-fixed
 returns-in-None-clause-fixed c =
     let at = goal.at.returns-in-None-clause-fixed c in
     let st = now at.After-is_right in
     let m = c.args.mapping.now in
-    let fixed = is_fixed st m c.args.at c.args.fresh c.args.limbo (sym c.is_right.ensures ∙ c.if-not-is_right.false) (c.in-Some.ensures.some.0 refl)
-    c.in-Some-get.cells.now (here at.After-mapped_page)
-    (refused_is at.After-mapped_page ∙ ap (option_map (λ page. why.Exists (4096 * page))) c.in_default-mapped_page.is)
-    (lacking at.After-lack_of_tables ∙ c.in-None.is) in
-    subst (λ st. IsFixed st m c.args.at c.args.fresh c.args.limbo c.first-first.result) c.self.view_is
-    (subst (IsFixed st m c.args.at c.args.fresh c.args.limbo) (sym (first_is at.After-mapped_page)) fixed)
+    subst (λ st. IsFixed st m c.args.at c.args.fresh c.pages_in.result) c.self.view_is (record {
+      fits = fixed_fits st m c.args.at c.args.fresh (sym c.is_right.ensures ∙ c.if-not-is_right.false) (c.in-Some.ensures.some.0 refl) c.in-Some-get.cells.now (here at.After-mapped_page)
+          (refused_is at.After-mapped_page ∙ ap (option_map (λ page. why.Exists (4096 * page))) c.in-None.is);
+      pages = c.pages_in.ensures.pages ∙ (λ i. record { first = (c.in-Some.ensures.value i).first; count = (c.in-Some.ensures.value i).count });
+    })

@@ -19,13 +19,13 @@ pub returns-in-Ok-clause-ok : goal.returns-in-Ok-clause-ok
 returns-in-Ok-clause-ok c =
     let st = c.args.self.now in
     let n = c.number-number.result in
-    made_named st c.touch.new.self (call.Load n c.args.at c.args.len) (call.Load c.args.space c.args.at c.args.len) (λ i. call.Load (c.number-number.ensures.value i) c.args.at c.args.len)
+    made_named st c.touch.new.self c.args.limbo (call.Load n c.args.at c.args.len) (call.Load c.args.space c.args.at c.args.len) (λ i. call.Load (c.number-number.ensures.value i) c.args.at c.args.len)
     n (reaching c.args.at c.args.len false) (load_access st n c.args.at c.args.len) c.in-Ok.ensures.allowed c.in-Ok.ensures.ok (reply.Bytes c.read.new.bytes)
     (λ thread. ap reply.Bytes (c.read.ensures st.files ∙ (λ i. loaded st.files (space_at (c.in-Ok.ensures.ok i) n) (c.in-Ok.ensures.access i)) ∙ loaded_stays st n (reaching c.args.at c.args.len false) refl)
     ∙ load_answer st thread n c.args.at c.args.len)
 
 pub returns-in-Err-clause-ok : goal.returns-in-Err-clause-ok
 returns-in-Err-clause-ok c =
-    stopped_named c.args.self.now c.touch.new.self (call.Load c.number-number.result c.args.at c.args.len) (call.Load c.args.space c.args.at c.args.len) (λ i. call.Load (c.number-number.ensures.value i) c.args.at c.args.len)
+    stopped_named c.args.self.now c.touch.new.self c.args.limbo (call.Load c.number-number.result c.args.at c.args.len) (call.Load c.args.space c.args.at c.args.len) (λ i. call.Load (c.number-number.ensures.value i) c.args.at c.args.len)
     c.number-number.result (reaching c.args.at c.args.len false) (load_access c.args.self.now c.number-number.result c.args.at c.args.len)
     c.in-Err.stop c.in-Err.ensures.refused c.in-Err.ensures.kept c.refusal.result c.refusal.ensures

@@ -3,7 +3,7 @@ use Rattle.std.specs.Option.{OnSome}
 use Rattle.std.specs.FinMap as map
 use Rattle.corten_base.specs.declared.calls.Reply.TheVariants as reply
 use Rattle.table_place.specs.Place.{is_page_range, pages_of}
-use Rattle.page_map.specs.State.{State}
+use Rattle.page_map.specs.State.{State, IsConsistent, levels}
 use Rattle.plain_spaces.proofs.Moves.{put_back}
 use Rattle.mm_model.specs.Moves.{move_call}
 use Rattle.mm_model.specs.Plain.{IsSound}
@@ -15,15 +15,15 @@ use Rattle.mm_model.proofs.plain.Plain.move_pages.Goals.{After-get_mut, After-pa
 
 pub returns-in_default : goal.returns-in_default
 returns-in_default c = λ thread limbo legal.
-    wrong c.args.self.now (move_call c.args.way c.args.space c.args.at c.args.len) c.args.space c.args.at c.args.len _ _ _ (is_move c.args.self.now c.args.way c.args.space c.args.at c.args.len) thread limbo legal
-    (no_range (is_page_range 4 c.args.at c.args.len) c.in_default.ensures.some.1)
+    wrong c.args.self.now (move_call c.args.way c.args.space c.args.at c.args.len) c.args.space c.args.at c.args.len _ _ _ (is_move c.args.self.now c.args.way c.args.space c.args.at c.args.len (subst IsConsistent c.self.view_is c.self.invariant.state)) thread limbo legal
+    (ap (λ st. is_page_range (levels st) c.args.at c.args.len) (sym c.self.view_is) ∙ no_range (is_page_range c.self.inside.limits.levels c.args.at c.args.len) c.in_default.ensures.some.1)
 
 -- the state that the machine had
 abbrev before : After-get_mut → State
 before c = record { spaces = c.self.inside.spaces; tables = c.self.inside.tables; limits = c.self.inside.limits; files = c.self.inside.shelf }
 
 -- the range is right
-abbrev right : (c : After-get_mut) → is_page_range 4 c.args.at c.args.len ≡ true
+abbrev right : (c : After-get_mut) → is_page_range c.self.inside.limits.levels c.args.at c.args.len ≡ true
 right c = c.in-Some.ensures.some.0 refl
 
 pub returns-in_default-get_mut : goal.returns-in_default-get_mut
@@ -31,7 +31,7 @@ returns-in_default-get_mut c =
     let at = (goal.at.returns-in_default-get_mut c).After-get_mut in
     named (before at) c.args.self.now c.self.view_is c.number.result c.args.space c.number.ensures.value (λ n. move_call c.args.way n c.args.at c.args.len) reply.NoSpace _
     (λ thread limbo legal. (λ i. (reply.NoSpace, record (before at) { spaces = c.get_mut.follows.holds-at-none i }))
-    ∙ absent (before at) (move_call c.args.way c.number.result c.args.at c.args.len) c.number.result c.args.at c.args.len _ _ _ (is_move (before at) c.args.way c.number.result c.args.at c.args.len) thread limbo legal
+    ∙ absent (before at) (move_call c.args.way c.number.result c.args.at c.args.len) c.number.result c.args.at c.args.len _ _ _ (is_move (before at) c.args.way c.number.result c.args.at c.args.len c.self.invariant.state) thread limbo legal
     (right at) (sym c.in_default-get_mut.ensures.value))
 
 pub pages-need-requires-clause-counted : goal.pages-need-requires-clause-counted

@@ -22,4 +22,4 @@ returns-clause-ok c =
     λ i. record { spaces = spaces i; tables = tables i; limits = c.args.limits; files = c.shelf.view_is i }
 
 pub returns-clause-fits : goal.returns-clause-fits
-returns-clause-fits c = subst (λ (st : State). linked st ≤ st.limits.tables) (sym (returns-clause-ok c)) (start_is_consistent c.args.limits c.args.shelf c.requires.some_table).tables
+returns-clause-fits c = subst (λ (st : State). linked st ≤ st.limits.tables) (sym (returns-clause-ok c)) (start_is_consistent c.args.limits c.args.shelf c.requires.some_levels c.requires.few_levels c.requires.some_table).tables

@@ -10,15 +10,15 @@ touch-requires-clause-call c = (call.Store c.number.result c.args.at c.bytes-sto
 
 pub returns-in-Ok-clause-ok : goal.returns-in-Ok-clause-ok
 returns-in-Ok-clause-ok c =
-    made_named c.args.self.now c.touch.new.self (call.Store c.number.result c.args.at c.bytes-stored.result.now) (call.Store c.args.space c.args.at c.args.bytes.now)
+    made_named c.args.self.now c.touch.new.self c.args.limbo (call.Store c.number.result c.args.at c.bytes-stored.result.now) (call.Store c.args.space c.args.at c.args.bytes.now)
     (λ i. call.Store (c.number.ensures.value i) c.args.at (c.bytes-stored.ensures.value i))
     c.number.result (storing c.args.at c.bytes-stored.result.now) (store_access c.args.self.now c.number.result c.args.at c.bytes-stored.result.now)
-    (record { user = c.in-Ok.ensures.allowed.user; present = c.in-Ok.ensures.allowed.present; pages = c.in-Ok.ensures.allowed.pages; frames = c.in-Ok.ensures.allowed.frames }) c.in-Ok.ensures.ok reply.Ok
+    (record { facts = c.in-Ok.ensures.allowed.facts; user = c.in-Ok.ensures.allowed.user; present = c.in-Ok.ensures.allowed.present; pages = c.in-Ok.ensures.allowed.pages; tables = c.in-Ok.ensures.allowed.tables; frames = c.in-Ok.ensures.allowed.frames }) c.in-Ok.ensures.ok reply.Ok
     (λ thread. store_answer c.args.self.now thread c.number.result c.args.at c.bytes-stored.result.now)
 
 pub returns-in-Err-clause-ok : goal.returns-in-Err-clause-ok
 returns-in-Err-clause-ok c =
-    stopped_named c.args.self.now c.touch.new.self (call.Store c.number.result c.args.at c.bytes-stored.result.now) (call.Store c.args.space c.args.at c.args.bytes.now)
+    stopped_named c.args.self.now c.touch.new.self c.args.limbo (call.Store c.number.result c.args.at c.bytes-stored.result.now) (call.Store c.args.space c.args.at c.args.bytes.now)
     (λ i. call.Store (c.number.ensures.value i) c.args.at (c.bytes-stored.ensures.value i))
     c.number.result (storing c.args.at c.bytes-stored.result.now) (store_access c.args.self.now c.number.result c.args.at c.bytes-stored.result.now)
     c.in-Err.stop c.in-Err.ensures.refused c.in-Err.ensures.kept c.refusal.result c.refusal.ensures

@@ -12,4 +12,4 @@ returns c =
     c.remove_between.ensures
     ∙ retain_same c.args.self.now _ _ (λ p.
     (λ i. not (is_between (record { space = c.args.space; level = c.args.level; prefix = start i }) (record { space = c.args.space; level = c.args.level; prefix = stop i }) p))
-    ∙ ap not (covered_places c.args.space c.args.level c.args.first c.args.end c.span-pages.result c.requires.level c.requires.range c.span-pages.ensures.pages c.span-pages.ensures.some p))
+    ∙ ap not (covered_places c.args.levels c.args.space c.args.level c.args.first c.args.end c.span-pages.result c.requires.level c.requires.range c.span-pages.ensures.pages c.span-pages.ensures.some p))

@@ -6,15 +6,15 @@ use Rattle.plain_spaces.proofs.Reach.{outside_first, outside_last}
 use Rattle.plain_spaces.proofs.access.Access.new.Goals as goal
 
 pub returns-then-not-is_user-clause-refused : goal.returns-then-not-is_user-clause-refused
-returns-then-not-is_user-clause-refused c = outside_first (reaching c.args.at c.args.len c.args.write) c.requires.some c.requires.few (sym c.if-not-is_user.ensures)
+returns-then-not-is_user-clause-refused c = outside_first (reaching c.args.at c.args.len c.args.write) c.requires.some c.requires.few c.args.levels (sym c.if-not-is_user.ensures.value)
 
 pub returns-then-not-is_user-2-clause-refused : goal.returns-then-not-is_user-2-clause-refused
 returns-then-not-is_user-2-clause-refused c =
-    outside_last (reaching c.args.at c.args.len c.args.write) c.requires.some c.requires.few (sym c.if-not-is_user.ensures) false
-    (ap (λ n. is_user_page 4 ((c.args.at + n - 1) / 4096)) (sym c.from.ensures) ∙ sym c.if-not-is_user-2.ensures)
+    outside_last (reaching c.args.at c.args.len c.args.write) c.requires.some c.requires.few c.args.levels (sym c.if-not-is_user.ensures.value) false
+    (ap (λ n. is_user_page c.args.levels ((c.args.at + n - 1) / 4096)) (sym c.from.ensures) ∙ sym c.if-not-is_user-2.ensures.value)
     ∙ ap (λ n. Some (reply.Segv (4096 * ((c.args.at + n - 1) / 4096)))) (sym c.from.ensures)
 
 pub returns-clause-ok : goal.returns-clause-ok
 returns-clause-ok c =
-    outside_last (reaching c.args.at c.args.len c.args.write) c.requires.some c.requires.few (sym c.if-not-is_user.ensures) true
-    (ap (λ n. is_user_page 4 ((c.args.at + n - 1) / 4096)) (sym c.from.ensures) ∙ sym c.if-not-is_user-2.ensures)
+    outside_last (reaching c.args.at c.args.len c.args.write) c.requires.some c.requires.few c.args.levels (sym c.if-not-is_user.ensures.value) true
+    (ap (λ n. is_user_page c.args.levels ((c.args.at + n - 1) / 4096)) (sym c.from.ensures) ∙ sym c.if-not-is_user-2.ensures.value)

@@ -1,12 +1,11 @@
-use Rattle.std.proofs.Common.{◌≡◌, ℕ, ◌+◌, ◌-◌, ◌<◌, ◌≤◌, List, cond, length, sym, ap, subst, ◌∙◌}
-use Rattle.std.specs.Prelude.{Some, is_some, slice_index, slice_set, IfSome, IfNone}
+use Rattle.std.proofs.Common.{◌≡◌, ℕ, ◌+◌, ◌-◌, ◌≤◌, cond, length, sym, ap, subst, ◌∙◌}
+use Rattle.std.specs.Prelude.{is_some, slice_index, slice_set, IfSome, IfNone}
 use Rattle.page_map.specs.Access.{first_page}
-use Rattle.page_map.specs.Takes.{grant}
 use Rattle.plain_counts.specs.declared.counts.Counts.{Counts}
 use Rattle.plain_counts.specs.Counts.{Follow}
 use Rattle.plain_counts.specs.Owners.{unused_of}
 use Rattle.plain_spaces.specs.Numbers.{IsCarried, LeavesAny}
-use Rattle.plain_spaces.specs.Reach.{last_page, wanting}
+use Rattle.plain_spaces.specs.Reach.{last_page}
 use Rattle.plain_spaces.specs.Wants.{in_frame, laid}
 use Rattle.plain_spaces.proofs.Plans.{count_wanting}
 use Rattle.plain_spaces.proofs.Brought.{enough_near, enough_far, none_taken, both_laid, all_brought}

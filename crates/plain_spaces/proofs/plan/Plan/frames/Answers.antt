@@ -1,4 +1,4 @@
-use Rattle.std.proofs.Common.{◌≡◌, ◌+◌, cond, sym, ap, ◌∙◌}
+use Rattle.std.proofs.Common.{◌+◌, cond, sym, ap, ◌∙◌}
 use Rattle.plain_spaces.proofs.Plans.{count_wanting}
 use Rattle.plain_spaces.proofs.plan.Plan.frames.Goals as goal
 

@@ -1,10 +1,10 @@
-use Rattle.std.proofs.Common.{◌≡◌, ℕ, ◌+◌, ◌-◌, ◌<◌, ◌≤◌, length, refl, sym, ap, subst, ◌∙◌, arith}
+use Rattle.std.proofs.Common.{◌≡◌, ◌+◌, ◌-◌, ◌≤◌, length, refl, sym, ap, subst, ◌∙◌, arith}
 use Rattle.page_map.specs.Change.{keys_in}
 use Rattle.plain_counts.specs.Counts.{AreCounted}
 use Rattle.plain_counts.specs.Owners.{unused_of}
 use Rattle.plain_spaces.specs.Swapping.{loses_of, passes, taken, to}
 use Rattle.plain_spaces.proofs.Followed.{all_followed, all_follow_on, all_still_counted}
-use Rattle.plain_spaces.proofs.Held.{IsNextHeld, is_next_held, no_next_held, quiet_at, cell_at}
+use Rattle.plain_spaces.proofs.Held.{IsNextHeld, is_next_held, no_next_held, quiet_at}
 use Rattle.plain_spaces.proofs.Keys.{keys_past}
 use Rattle.plain_spaces.proofs.Swaps.{all_to_do, to_do_next, to_do_none}
 use Rattle.plain_spaces.proofs.Swapped.{still_to_do, still_enough, number_left, alike, moves_follow}

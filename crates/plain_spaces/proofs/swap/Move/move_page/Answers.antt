@@ -1,5 +1,4 @@
-use Rattle.std.proofs.Common.{◌≡◌, Some, sym, ap, ◌∙◌}
-use Rattle.page_map.specs.declared.cell.Cell.{Cell}
+use Rattle.std.proofs.Common.{sym}
 use Rattle.plain_spaces.proofs.Held.{cell_at}
 use Rattle.plain_spaces.proofs.Swapped.{moved_page, stayed_page, number_is_carried, still_carried}
 use Rattle.plain_spaces.proofs.swap.Move.move_page.Goals as goal

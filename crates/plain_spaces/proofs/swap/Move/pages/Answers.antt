@@ -1,4 +1,4 @@
-use Rattle.std.proofs.Common.{◌≡◌, ℕ, ◌+◌, ◌-◌, ◌<◌, ◌≤◌, length, sym, ap, ◌∙◌, arith}
+use Rattle.std.proofs.Common.{◌≡◌, ◌+◌, ◌-◌, length, ap, ◌∙◌, arith}
 use Rattle.page_map.specs.Change.{keys_in}
 use Rattle.plain_spaces.specs.Swapping.{passes}
 use Rattle.plain_spaces.proofs.Held.{IsNextHeld, is_next_held, no_next_held, quiet_at, cell_at}

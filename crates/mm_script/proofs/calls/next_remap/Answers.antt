@@ -1,0 +1,33 @@
+-- What was read so far stands before the word that is none.
+use Rattle.std.proofs.Common.{ℕ, ◌∷◌, codes, ap, ◌∙◌, rules}
+use Rattle.text_words.specs.Spelling.{number, address}
+use Rattle.mm_script.specs.CallLine.{IsNumber}
+use Rattle.mm_script.proofs.OneArgument.{behind_first}
+use Rattle.mm_script.proofs.calls.next_remap.Goals as goal
+
+pub returns-in_err-next_space-clause-none : goal.returns-in_err-next_space-clause-none
+returns-in_err-next_space-clause-none c = rw c.from_residual.ensures (λ space at old_len new_len rest is_space at_fits old_fits new_fits are.
+    c.in_err-next_space.ensures.none space _ is_space are)
+
+pub returns-in_err-next_address-clause-none : goal.returns-in_err-next_address-clause-none
+returns-in_err-next_address-clause-none c = rw c.from_residual-in_err-next_address.ensures (λ space at old_len new_len rest is_space at_fits old_fits new_fits are.
+    c.in_err-next_address.ensures.none at _ at_fits (behind_first _ _ _ _ _ c.in_ok-next_space.ensures.found.1 are))
+
+pub returns-in_err-next_number-clause-none : goal.returns-in_err-next_number-clause-none
+returns-in_err-next_number-clause-none c = rw c.from_residual-in_err-next_number.ensures (λ space at old_len new_len rest is_space at_fits old_fits new_fits are.
+    c.in_err-next_number.ensures.none old_len _ old_fits (behind_first _ _ _ _ _ c.in_ok-next_address.ensures.found (behind_first _ _ _ _ _ c.in_ok-next_space.ensures.found.1 are)))
+
+pub returns-in_err-next_number-2-clause-none : goal.returns-in_err-next_number-2-clause-none
+returns-in_err-next_number-2-clause-none c = rw c.from_residual-in_err-next_number-2.ensures (λ space at old_len new_len rest is_space at_fits old_fits new_fits are.
+    c.in_err-next_number-2.ensures.none new_len _ new_fits (behind_first _ _ _ _ _ c.in_ok-next_number.ensures.found (behind_first _ _ _ _ _ c.in_ok-next_address.ensures.found (behind_first _ _ _ _ _ c.in_ok-next_space.ensures.found.1 are))))
+
+pub returns-clause-found : goal.returns-clause-found
+returns-clause-found c =
+    let space : ℕ = c.in_ok-next_space.field-0 in
+    let at : ℕ = c.in_ok-next_address.field-0 in
+    let at_fits : IsNumber at = search rules in
+    let old_len : ℕ = c.in_ok-next_number.field-0 in
+    let old_fits : IsNumber old_len = search rules in
+    let new_len : ℕ = c.in_ok-next_number-2.field-0 in
+    let new_fits : IsNumber new_len = search rules in
+    ((c.in_ok-next_space.ensures.found.0, at_fits, old_fits, new_fits), ap (λ ws. codes "remap" ∷ ws) (c.in_ok-next_space.ensures.found.1 ∙ ap (λ ws. number space ∷ ws) (c.in_ok-next_address.ensures.found ∙ ap (λ ws. address at ∷ ws) (c.in_ok-next_number.ensures.found ∙ ap (λ ws. number old_len ∷ ws) (c.in_ok-next_number-2.ensures.found)))))
