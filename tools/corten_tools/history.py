@@ -52,7 +52,7 @@ def read_history(path):
     lines = read_text(path).split("\n")
     if lines[-1] == "":
         lines.pop()
-    expect(path, lines, 0, "corten [12]", "'corten 1', the first line of a history")
+    expect(path, lines, 0, "corten [12]", "'corten 2', the first line of a history")
     limits = {}
     for place, name in enumerate(("frames", "tables", "swap"), 1):
         limits[name] = int(expect(path, lines, place, rf"{name} (\d+)", f"'{name} N'").group(1))
@@ -115,11 +115,7 @@ class Replay:
 
     def do_map(self, words, reply):
         first, end = range_of(reply[1], words[3] if words[2] == "any" else words[4])
-        self.put(int(words[1]), first, end, cell_of(words, first))
-
-    def put(self, space, first, end, cell):
-        self.map.add_tables(space, first, end)
-        self.map.map(space, first, end, cell)
+        self.map.map(int(words[1]), first, end, cell_of(words, first))
 
     def do_unmap(self, words, reply):
         self.map.unmap(int(words[1]), *range_of(words[2], words[3]))
@@ -156,31 +152,28 @@ class Replay:
         for operation in " ".join(words[4:]).split(" ; "):
             op = operation.split(" ")
             first, end = range_of(*(op[2:4] if op[0] == "map" else op[1:3]))
+            self.map.cut_tables(space, first, end)
             if op[0] == "map":
-                self.put(space, first, end, cell_of(op, first))
+                self.map.map(space, first, end, cell_of(op, first))
             elif op[0] == "unmap":
                 self.map.unmap(space, first, end, tables=False)
             else:
                 self.map.protect(space, first, end, op[3])
 
     def do_dontneed(self, words, reply):
-        space = int(words[1])
-        first, end = range_of(words[2], words[3])
-        for start, stop, cell in self.map.spaces[space].ranges.parts(first, end):
-            if cell is not None:
-                self.map.map(space, start, stop, fresh(cell.perm, cell.file, cell.base))
+        self.map.give_back(int(words[1]), *range_of(words[2], words[3]))
 
     def do_remap(self, words, reply):
         space, (first, end), target = int(words[1]), range_of(words[2], words[3]), int(reply[1], 16) // PAGE
         new_end = target + pages_of(int(words[4]))
         last = self.map.spaces[space].ranges.value(end - 1)
         if target != first:
-            self.map.add_tables(space, target, new_end)
             self.map.shift(space, first, end, target - first)
             self.map.unmap(space, first, end)
             end += target - first
             last = last._replace(base=None if last.base is None else last.base - target + first)
         if end < new_end:
-            self.put(space, end, new_end, fresh(last.perm, last.file, last.base))
+            self.map.map(space, end, new_end, fresh(last.perm, last.file, last.base))
         elif new_end < end:
             self.map.unmap(space, new_end, end)
+        self.map.settle(space, target, new_end)

@@ -1,7 +1,8 @@
 """The page map as far as the programs here need it: which pages are mapped, and how many frames and tables are in use.
 
-It counts frames, swap slots and page tables and does not number them. Page tables are those of four levels: a call that
-maps adds the missing ones above its pages, `unmap` removes those whose span lies in its range.
+It counts frames, swap slots and page tables and does not number them. A page table is added where its span stops being
+alike: all pages unmapped, or all without a frame and going on from one another. A change of a range can do that only at
+the two ends of the range. `unmap` removes the tables whose span lies in its range.
 """
 
 from collections import Counter, defaultdict, namedtuple
@@ -11,9 +12,10 @@ from .ranges import Ranges
 PAGE = 4096
 SPACES = 64
 
-# `kind` is anon, file, frame or swapped. A file's page has the index `base` plus its number; else `file` and `base` are
-# None.
+# `kind` is anon, file, frame or swapped. A page that came from a file has the index `base` plus its number; else `file`
+# and `base` are None.
 Cell = namedtuple("Cell", "kind perm file base")
+NUMBERED = ("frame", "swapped")
 
 
 def pages_of(length):
@@ -29,6 +31,11 @@ def within(numbers, low, high):
 
 def fresh(perm, file=None, base=None):
     return Cell("anon" if file is None else "file", perm, file, base)
+
+
+def are_alike(cells):
+    """Whether one entry can stand for all pages, where equal cells go on from one another."""
+    return len(set(cells)) <= 1 and not any(cell is not None and cell.kind in NUMBERED for cell in cells)
 
 
 class Space:
@@ -113,11 +120,13 @@ class PageMap:
 
     def map(self, number, first, end, cell):
         space = self.spaces[number]
+        self._add(space, self.lacking(number, first, end, lambda _: cell))
         self._drop_numbers(space, first, end)
         space.ranges.put(first, end, cell)
 
     def unmap(self, number, first, end, tables=True):
         space = self.spaces[number]
+        self._add(space, self.lacking(number, first, end, lambda _: None))
         self._drop_numbers(space, first, end)
         space.ranges.put(first, end, None)
         if tables:
@@ -126,10 +135,19 @@ class PageMap:
                 space.tables[level] -= set(within(space.tables[level], -(-first // span), end // span))
 
     def protect(self, number, first, end, perm):
-        ranges = self.spaces[number].ranges
-        for start, stop, cell in ranges.parts(first, end):
+        space = self.spaces[number]
+        self._add(space, self.lacking(number, first, end, lambda cell: cell and cell._replace(perm=perm)))
+        for start, stop, cell in space.ranges.parts(first, end):
             if cell is not None:
-                ranges.put(start, stop, cell._replace(perm=perm))
+                space.ranges.put(start, stop, cell._replace(perm=perm))
+
+    def give_back(self, number, first, end):
+        """The pages of a range are what they came from again. They need no table, and keep those that are there."""
+        space = self.spaces[number]
+        self._drop_numbers(space, first, end)
+        for start, stop, cell in space.ranges.parts(first, end):
+            if cell is not None:
+                space.ranges.put(start, stop, fresh(cell.perm, cell.file, cell.base))
 
     def wants_frame(self, number, page, write):
         space = self.spaces[number]
@@ -139,6 +157,7 @@ class PageMap:
     def access(self, number, first, end, write):
         space = self.spaces[number]
         for page in range(first, end):
+            self._add(space, self.lacking(number, page, page + 1, lambda cell: cell and cell._replace(kind="frame")))
             if self.wants_frame(number, page, write):
                 self._drop_number(space, page)
                 self._give_number(self.frame_owners, space.frames, page)
@@ -176,28 +195,57 @@ class PageMap:
         space.frames.update(taken[0])
         space.slots.update(taken[1])
 
+    def settle(self, number, first, end):
+        """Adds the tables that a range needs as it stands, after pages of several kinds have come into it."""
+        space = self.spaces[number]
+        for start, stop, _ in space.ranges.parts(first, end):
+            self._add(space, self.lacking(number, start, stop, lambda cell: cell))
+
     @staticmethod
     def _span(level):
         return 1 << (9 * level)
 
-    def missing_tables(self, number, first, end):
-        """How many tables below the root are missing above `first..end`."""
-        missing = 0
+    def _above(self, first, end, numbered):
+        """The tables below the root above the ends of a range, or above all its pages, which have numbers."""
         for level in range(1, self.levels):
-            low, high = first // self._span(level), (end - 1) // self._span(level) + 1
-            missing += high - low - len(within(self.spaces[number].tables[level], low, high))
-        return missing
+            low, high = first // self._span(level), (end - 1) // self._span(level)
+            for prefix in range(low, high + 1) if numbered else sorted({low, high}):
+                yield level, prefix
+
+    def lacking(self, number, first, end, change):
+        """The missing tables below the root, by level and prefix, that are needed once each cell of a range has changed."""
+        space = self.spaces[number]
+        parts = [(start, stop, change(cell)) for start, stop, cell in space.ranges.parts(first, end)]
+        numbered = any(cell is not None and cell.kind in NUMBERED for _, _, cell in parts)
+        return [(level, prefix) for level, prefix in self._above(first, end, numbered)
+                if prefix not in space.tables[level] and not self._is_alike(space, level, prefix, parts)]
+
+    def _is_alike(self, space, level, prefix, changed):
+        low, high = prefix * self._span(level), (prefix + 1) * self._span(level)
+        first, end = changed[0][0], changed[-1][1]
+        cells = [cell for start, stop, cell in changed if start < high and low < stop]
+        for start, stop in ((low, min(first, high)), (max(end, low), high)):
+            if start < stop:
+                cells += [cell for _, _, cell in space.ranges.parts(start, stop)]
+        return are_alike(cells)
+
+    def cut_tables(self, number, first, end):
+        """Adds the tables below the root that a range meets and whose spans it has only in part, as a transaction does."""
+        self._add(self.spaces[number], [
+            (level, prefix) for level, prefix in self._above(first, end, False)
+            if prefix * self._span(level) < first or end < (prefix + 1) * self._span(level)])
+
+    @staticmethod
+    def _add(space, places):
+        for level, prefix in places:
+            space.tables[level].add(prefix)
 
     def tables_of_fork(self, number):
-        """The tables below the root that a copy of the space gets."""
+        """The tables below the root that a copy of the space gets: those with a mapped page."""
+        space = self.spaces[number]
         tables = defaultdict(set)
-        for first, end, _ in self.spaces[number].ranges:
-            self._put_tables(tables, first, end)
+        for level, prefixes in space.tables.items():
+            span = self._span(level)
+            tables[level] = {prefix for prefix in prefixes
+                             if any(cell is not None for _, _, cell in space.ranges.parts(prefix * span, (prefix + 1) * span))}
         return tables
-
-    def add_tables(self, number, first, end):
-        self._put_tables(self.spaces[number].tables, first, end)
-
-    def _put_tables(self, tables, first, end):
-        for level in range(1, self.levels):
-            tables[level].update(range(first // self._span(level), (end - 1) // self._span(level) + 1))

@@ -286,17 +286,17 @@ class Turner:
     def place(self, memory, word, first, length, cell, kind):
         """Says a mapping that the kernel granted, and maps it."""
         end = first + pages_of(length)
-        fits = self.take_tables(memory, first, end)
+        fits = self.fits(memory, first, end, lambda _: cell)
         self.say(f"map {memory.number} {word} {first * PAGE:#x} {length} {cell.perm} {kind}", ("at", first * PAGE))
         if fits:
             self.map.map(memory.number, first, end, cell)
             self.touch_pages(memory, first, end)
         memory.left_out.put(first, end, None if fits else True)
 
-    def take_tables(self, memory, first, end):
-        lacking = self.map.missing_tables(memory.number, first, end)
+    def fits(self, memory, first, end, change):
+        """Whether there are page tables enough to change each cell of a range so."""
+        lacking = len(self.map.lacking(memory.number, first, end, change))
         if self.map.tables_linked() + lacking <= TABLES:
-            self.map.add_tables(memory.number, first, end)
             return True
         self.comment(f"{TABLES} page tables are too few for the next call, which is refused")
         self.reason("mapping", f"refused here: more than {TABLES} page tables are wanted")
@@ -319,9 +319,12 @@ class Turner:
             self.refused(call, text)
             return
         first = address // PAGE
+        end = first + pages_of(length)
+        fits = self.fits(memory, first, end, lambda _: None)
         self.say(text, ("ok",))
-        self.map.unmap(memory.number, first, first + pages_of(length))
-        memory.left_out.put(first, first + pages_of(length), None)
+        if fits:
+            self.map.unmap(memory.number, first, end)
+        memory.left_out.put(first, end, None)
         self.said[call.name] += 1
 
     def refused(self, call, text):
@@ -342,12 +345,12 @@ class Turner:
         end = first + pages_of(length)
         if first == end:
             raise Left("length 0 changes nothing there and is refused here")
-        if any(value for _, _, value in memory.left_out.parts(first, end)):
-            raise Left("a page of it is of a mapping that was left out")
-        self.map_unlogged(memory, first, end)
+        self.whole(memory, first, end)
+        fits = self.fits(memory, first, end, lambda cell: cell and cell._replace(perm=perm))
         self.say(text, ("ok",))
-        self.map.protect(memory.number, first, end, perm)
-        self.touch_pages(memory, first, end)
+        if fits:
+            self.map.protect(memory.number, first, end, perm)
+            self.touch_pages(memory, first, end)
         self.said[call.name] += 1
 
     def map_unlogged(self, memory, first, end):
@@ -355,7 +358,7 @@ class Turner:
         for start, stop, cell in self.map.spaces[memory.number].ranges.parts(first, end):
             if cell is None:
                 length = (stop - start) * PAGE
-                fits = self.take_tables(memory, start, stop)
+                fits = self.fits(memory, start, stop, lambda _: fresh("rw-"))
                 self.add(f"map {memory.number} new {start * PAGE:#x} {length} rw- zero", ("at", start * PAGE),
                          "pages that no call of the log mapped, as an execve does")
                 if fits:
@@ -375,7 +378,8 @@ class Turner:
             self.place(memory, "new", first, (end - first) * PAGE, fresh("rw-"), "zero")
         else:
             self.say(f"unmap {memory.number} {end * PAGE:#x} {(first - end) * PAGE}", ("ok",))
-            self.map.unmap(memory.number, end, first)
+            if self.fits(memory, end, first, lambda _: None):
+                self.map.unmap(memory.number, end, first)
         self.said[call.name] += 1
 
     # Advice and moves.
@@ -383,23 +387,33 @@ class Turner:
     def on_madvise(self, call, memory):
         self.there(memory)
         address, length, advice = number(call.args[0]), number(call.args[1]), call.args[2]
-        word = {"MADV_PAGEOUT": "out", "MADV_WILLNEED": "in"}.get(advice)
+        word = {"MADV_PAGEOUT": "out", "MADV_WILLNEED": "in", "MADV_DONTNEED": "dontneed"}.get(advice)
         if word is None:
-            raise Left("not served yet" if advice == "MADV_DONTNEED" else "advice without counterpart")
+            raise Left("advice without counterpart")
         text = f"{word} {memory.number} {address:#x} {length}"
         if call.error:
             self.refused(call, text)
             return
         if length == 0:
             raise Left("length 0 changes nothing there and is refused here")
-        self.say(text, ("moved",))
         first = address // PAGE
-        move = self.map.swap_out if word == "out" else self.map.swap_in
-        move(memory.number, first, first + pages_of(length))
+        end = first + pages_of(length)
+        if word == "dontneed":
+            self.whole(memory, first, end)
+        self.say(text, ("ok",) if word == "dontneed" else ("moved",))
+        change = {"out": self.map.swap_out, "in": self.map.swap_in, "dontneed": self.map.give_back}[word]
+        change(memory.number, first, end)
         self.said[call.name] += 1
 
+    def whole(self, memory, first, end):
+        """Sees to it that all pages of a range are mapped here, as the kernel found them."""
+        if any(value for _, _, value in memory.left_out.parts(first, end)):
+            raise Left("a page of it is of a mapping that was left out")
+        self.map_unlogged(memory, first, end)
+
     def on_mremap(self, call, memory):
-        """Not served yet. Other calls map what it leaves mapped, so that later ones find it; its bytes are zeros."""
+        """Said where the range stays at its place. Where the kernel moved it, to a place of its own choice, other calls map
+        what it leaves mapped, so that later ones find it; its bytes are zeros."""
         self.there(memory)
         if call.error:
             raise Left(f"refused with {call.error}")
@@ -409,7 +423,10 @@ class Turner:
             memory.left_out.put(old, old_end, None)
             self.leave_range(memory, new, new_end)
             raise Left("a page of it is of a mapping that was left out")
-        self.leave("not served yet; the next calls leave the same pages mapped, as zeros")
+        if new == old and self.is_free(memory, old_end, new_end):
+            self.stretch(call, memory, old, old_end, new_end)
+            return
+        self.leave("moved to a place of the kernel's choice; the next calls leave the same pages mapped, as zeros")
         cell = self.map.spaces[memory.number].ranges.value(old) or fresh("rw-")
         if new == old:
             self.add_unmap(memory, new_end, old_end)
@@ -418,6 +435,24 @@ class Turner:
             if "MREMAP_DONTUNMAP" not in call.args[3]:
                 self.add_unmap(memory, old, old_end)
             self.add_map(memory, new, new_end, cell.perm)
+
+    def is_free(self, memory, first, end):
+        """Whether no page of a range is mapped here."""
+        ranges = self.map.spaces[memory.number].ranges
+        return first >= end or all(cell is None for _, _, cell in ranges.parts(first, end))
+
+    def stretch(self, call, memory, first, end, new_end):
+        """Says a range that gets another length at its place."""
+        self.whole(memory, first, end)
+        last = self.map.spaces[memory.number].ranges.value(end - 1)
+        later = fresh(last.perm, last.file, last.base) if end < new_end else None
+        low, high = sorted((end, new_end))
+        fits = low == high or self.fits(memory, low, high, lambda _: later)
+        self.say(f"remap {memory.number} {first * PAGE:#x} {call.args[1]} {call.args[2]}", ("at", first * PAGE))
+        if fits and low < high:
+            (self.map.unmap if later is None else self.map.map)(memory.number, low, high, *([] if later is None else [later]))
+            memory.left_out.put(low, high, None)
+        self.said[call.name] += 1
 
     def add_unmap(self, memory, first, end):
         if first < end:
@@ -428,7 +463,7 @@ class Turner:
     def add_map(self, memory, first, end, perm):
         if first >= end:
             return
-        fits = self.take_tables(memory, first, end)
+        fits = self.fits(memory, first, end, lambda _: fresh(perm))
         text = f"map {memory.number} at {first * PAGE:#x} {(end - first) * PAGE} {perm} zero"
         self.add(text, ("at", first * PAGE), "what an mremap leaves")
         if fits:
@@ -448,6 +483,8 @@ class Turner:
             if wants and self.map.frames_used() == FRAMES:
                 self.comment(f"not touched: {FRAMES} frames are in use")
                 self.reason("touch", f"{FRAMES} frames are in use")
+                return
+            if wants and not self.fits(memory, page, page + 1, lambda cell: cell._replace(kind="frame")):
                 return
             if wants:
                 self.say(f"fault {memory.number} {page * PAGE:#x} {'w' if write else 'r'}", ("ok",), touch=True)
