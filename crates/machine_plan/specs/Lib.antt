@@ -1,0 +1,16 @@
+pub mod Books
+pub mod Limbo
+pub mod Agrees
+pub mod Follows
+pub mod Cover
+pub mod Uses
+pub mod Changes
+pub mod Wanting
+pub mod Kits
+pub mod HeldRows
+pub mod Held
+pub mod Local
+pub mod Given
+pub mod Whole
+pub mod Beginning
+pub mod Asking
