@@ -16,6 +16,33 @@ high_of byte = digit_glyph false (byte / 16)
 abbrev pub low_of : ℕ → ℕ
 low_of byte = digit_glyph false (byte % 16)
 
+pub hex-nil : hex [] ≡ []
+unfolding hex
+hex-nil = refl
+
+pub hex-cons : (byte : ℕ) (bytes : List ℕ) → hex (byte ∷ bytes) ≡ high_of byte ∷ low_of byte ∷ hex bytes
+unfolding hex
+hex-cons byte bytes = refl
+
+pub hex-append : (xs ys : List ℕ) → hex (xs ++ ys) ≡ hex xs ++ hex ys
+unfolding hex
+hex-append [] ys = refl
+hex-append (x ∷ xs) ys = ap (λ cs. high_of x ∷ low_of x ∷ cs) (hex-append xs ys)
+
+pub hex_push : (xs : List ℕ) (x : ℕ) → hex (xs ++ x ∷ []) ≡ hex xs ++ (high_of x ∷ low_of x ∷ [])
+hex_push xs x = hex-append xs (x ∷ []) ∙ ap (λ cs. hex xs ++ cs) (hex-cons x [] ∙ ap (λ cs. high_of x ∷ low_of x ∷ cs) hex-nil)
+
+-- one more byte is printed
+pub printed_more : (front bytes out : List ℕ) (i high low : ℕ) → i < length bytes → out ≡ front ++ hex (take i bytes) → high ≡ high_of (get_or bytes i 0) → low ≡ low_of (get_or bytes i 0) → (out ++ high ∷ []) ++ low ∷ [] ≡ front ++ hex (take (i + 1) bytes)
+printed_more front bytes out i high low inside so_far high_is low_is =
+    append_assoc out (high ∷ []) (low ∷ [])
+    ∙ ap (λ cs. cs ++ (high ∷ low ∷ [])) so_far
+    ∙ append_assoc front (hex (take i bytes)) (high ∷ low ∷ [])
+    ∙ ap (λ c. front ++ (hex (take i bytes) ++ (c ∷ low ∷ []))) high_is
+    ∙ ap (λ c. front ++ (hex (take i bytes) ++ (high_of (get_or bytes i 0) ∷ c ∷ []))) low_is
+    ∙ ap (λ cs. front ++ cs) (sym (hex_push (take i bytes) (get_or bytes i 0)))
+    ∙ ap (λ bs. front ++ hex bs) (sym (take_more bytes i 0 inside))
+
 -- the pairs of digits of bytes, one behind the other
 pub hex_of_pairs : (bytes : List ℕ) → flat_map (λ pair. pair) (map digit_pair bytes) ≡ hex bytes
 unfolding hex

@@ -29,8 +29,24 @@ fn pairs_of(alloc: Global, bytes: &[u8]) -> Result<Vec<[u8; 2]>, AllocError>
         .collect(alloc)
 }
 
-/// Appends two digits for each byte. Without memory nothing is appended.
-pub fn push_hex(out: &mut Vec<u8>, bytes: &[u8]) -> Result<(), AllocError>
+/// Below so many bytes a vector of their pairs costs more than it saves.
+const MANY: usize = 32;
+
+/// Appends two digits for each byte, one after the other. Without memory nothing is appended.
+fn push_each(out: &mut Vec<u8>, bytes: &[u8]) -> Result<(), AllocError>
+    ensures ok { OnOk result (out.new.items ≡ out.old.items ++ hex bytes.now) }
+    ensures err { OnErr result (out.new.items ≡ out.old.items) }
+{
+    out.reserve(2 * bytes.len())?;
+    for byte in bytes {
+        out.push(digit(*byte / 16))?;
+        out.push(digit(*byte % 16))?;
+    }
+    Ok(())
+}
+
+/// Appends two digits for each byte, which are made together first. Without memory nothing is appended.
+fn push_pairs(out: &mut Vec<u8>, bytes: &[u8]) -> Result<(), AllocError>
     ensures ok { OnOk result (out.new.items ≡ out.old.items ++ hex bytes.now) }
     ensures err { OnErr result (out.new.items ≡ out.old.items) }
 {
@@ -38,6 +54,18 @@ pub fn push_hex(out: &mut Vec<u8>, bytes: &[u8]) -> Result<(), AllocError>
     let pairs = pairs_of(alloc, bytes)?;
     out.extend_from_slice(pairs.as_flattened())?;
     Ok(())
+}
+
+/// Appends two digits for each byte. Without memory nothing is appended.
+pub fn push_hex(out: &mut Vec<u8>, bytes: &[u8]) -> Result<(), AllocError>
+    ensures ok { OnOk result (out.new.items ≡ out.old.items ++ hex bytes.now) }
+    ensures err { OnErr result (out.new.items ≡ out.old.items) }
+{
+    if bytes.len() < MANY {
+        push_each(out, bytes)
+    } else {
+        push_pairs(out, bytes)
+    }
 }
 
 /// Whether a byte is a digit.

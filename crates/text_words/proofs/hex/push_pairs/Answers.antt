@@ -1,7 +1,7 @@
 use Rattle.std.proofs.Common.{◌≡◌, ◌++◌, List, ap, ◌∙◌}
 use Rattle.std.specs.List.{flat_map}
 use Rattle.text_words.proofs.HexPairs.{hex_of_pairs}
-use Rattle.text_words.proofs.hex.push_hex.Goals as goal
+use Rattle.text_words.proofs.hex.push_pairs.Goals as goal
 
 pub returns-clause-ok : goal.returns-clause-ok
 returns-clause-ok c =
