@@ -1,7 +1,6 @@
 //! Mapping pages, at the least gap of a thread's arena or at an address.
 ghost use Rattle.std.specs.Prelude.{◌≡◌, ◌+◌, ◌<◌, ◌≤◌, ◌^◌, cond, is_some, None, IfOk, IfErr, OnErr};
 ghost use Rattle.std.specs.FinMap as map;
-ghost use Rattle.table_place.specs.Place.{pages_of};
 ghost use Rattle.page_map.specs.Change.{least};
 ghost use Rattle.page_map.specs.Mapping.{is_mappable};
 ghost use Rattle.page_map.specs.State.{linked};
@@ -16,7 +15,7 @@ use file_shelf::Shelf;
 use plain_counts::Pages;
 use space_cells::AddressSpace;
 use std::alloc::{AllocError, Global};
-use txn_plan::is_mappable;
+use txn_plan::{is_mappable, pages};
 
 /// A mapping without its place, since the rest is the same at a gap and at an address.
 #[derive(Clone, Copy)]
@@ -29,14 +28,6 @@ pub struct Mapping {
     pub perm: Perm,
     /// What its pages read as.
     pub backing: Backing,
-}
-
-/// How many pages a length covers.
-pub(crate) fn pages(len: u64) -> u64
-    ensures count { result ≡ pages_of len }
-    ensures small { result < 2 ^ 53 }
-{
-    len / 4096 + if len % 4096 == 0 { 0 } else { 1 }
 }
 
 /// The least page of a range that has a cell, where the range has to be empty.

@@ -12,7 +12,6 @@ ghost use Rattle.mm_model.specs.Remapping.{address_of, after_remap, lack_at, res
 ghost use Rattle.mm_model.specs.Steps.{IsRefusedFor, IsStepOf};
 
 use crate::lacking::refusal;
-use crate::mapping::pages;
 use crate::plain::Plain;
 use corten_base::{Range, Reply, SpaceId};
 use plain_counts::{Counts, Tables};
@@ -20,7 +19,7 @@ use plain_spaces::{Placing, Resize, Stop, remap_pages};
 use space_cells::AddressSpace;
 use std::alloc::{AllocError, Global};
 use table_place::Place;
-use txn_plan::is_length;
+use txn_plan::{is_length, pages};
 
 /// A range of pages that gets another length, and its place.
 #[derive(Clone, Copy)]

@@ -1,17 +1,16 @@
 -- The runs that a range of the tree shows first and last.
-use Rattle.std.proofs.Common.{◌≡◌, ℕ, ◌<◌, ◌≤◌, false, List, [], ◌∷◌, ◌++◌, refl, sym, ap, subst, arith}
-use Rattle.std.specs.Prelude.{Option, Some, None, IsSome, IfSome}
+use Rattle.std.proofs.Common.{◌≡◌, ℕ, ◌≤◌, false, List, [], ◌∷◌, ◌++◌, refl, sym, ap, arith}
+use Rattle.std.specs.Prelude.{Option, Some, None, IsSome}
 use Rattle.std.specs.Ordering.{nat_cmp, is_gt}
 use Rattle.std.specs.declared.cmp.Ordering.TheVariants.{Less, Equal}
-use Rattle.std.specs.declared.ops.Bound.TheVariants.{Included, Excluded, Unbounded}
-use Rattle.std.specs.Cmp.{nat_cmp_is, ranked}
-use Rattle.std.specs.List.{slice_get}
-use Rattle.std.specs.BTreeMap.Range.{IsRangeOf, IsEntryInRange, IsLeBy}
+use Rattle.std.specs.declared.ops.Bound.TheVariants.{Included, Unbounded}
+use Rattle.std.specs.Cmp.{nat_cmp_is}
+use Rattle.std.specs.BTreeMap.Range.{IsRangeOf}
 use Rattle.std.proofs.lemmas.Bool.{cases_lt}
 use Rattle.std.proofs.lemmas.Map.Keys.{le_from_not_gt, ge_from_not_lt}
 use mathlib.Core.Logic.{inl, inr}
 use Rattle.page_runs.specs.declared.spans.Span.{Span}
-use Rattle.page_runs.specs.Spans.{Spans, span_at, IsLastUpTo, IsFirstFrom}
+use Rattle.page_runs.specs.Spans.{Spans, span_at, IsLastUpTo}
 
 pub none_if : {A : Type 0} (o : Option A) → (IsSome o → ⊥) → o ≡ None
 none_if None h = refl
@@ -31,20 +30,4 @@ last_up_to spans page first span r t range step =
       there = entry.1;
       last = λ q low high. none_if (span_at spans q) (λ some.
           let up : q ≤ first = ge_from_not_lt first q (range.4 (first, span) t step q (tt, not_above q page high) some) in omega (arith, low, up));
-    }
-
-pub first_from : (spans : Spans) (low end first : ℕ) (span : Span) (r t : List (ℕ × Span)) → IsRangeOf nat_cmp (Included low) (Excluded end) spans r → r ≡ (first, span) ∷ t → IsFirstFrom spans low end first span
-first_from spans low end first span r t range step =
-    let entry : IsEntryInRange nat_cmp (Included low) (Excluded end) spans (first, span) =
-    subst (λ l. IfSome (slice_get l 0) (IsEntryInRange nat_cmp (Included low) (Excluded end) spans)) step range.1 in
-    let before : first < end = ranked first end Less (sym entry.0.1) in
-    record {
-      from = le_from_not_gt low first entry.0.0;
-      before = before;
-      there = entry.1;
-      least = λ q a b. none_if (span_at spans q) (λ some.
-          let high : q < end = omega (arith, b, before) in
-          let at : IsLeBy nat_cmp first q = subst (λ l. IfSome (slice_get l 0) (λ e. IsLeBy nat_cmp e.0 q)) step
-          (range.2 q (not_above low q a, sym (nat_cmp_is q end Less high)) some) in
-          let up : first ≤ q = le_from_not_gt first q at in omega (arith, b, up));
     }

@@ -4,7 +4,7 @@ use mathlib.Core.Bool.{true≢false}
 use mathlib.Core.Logic.{inl, inr}
 use Rattle.std.specs.Prelude.{Option, Some, None, is_some, is_none}
 use Rattle.std.specs.FinMap.{get}
-use Rattle.std.proofs.lemmas.Bool.{cases_lt, cases_eq}
+use Rattle.std.proofs.lemmas.Bool.{cases_eq}
 use Rattle.page_map.specs.Change.{earliest, least}
 use Rattle.page_map.proofs.Least.{unanswered}
 use Rattle.page_runs.specs.declared.runs.Run.{Run}
@@ -94,13 +94,3 @@ module _ (m : Marks) (first end : ℕ) where
 
     pub is_no_gap : (start : ℕ) → end < start + count → AreTaken start → least first (end + 1 - (first + count)) (λ s. is_vacant m s count) ≡ None
     is_no_gap start few taken = least_none (λ s. is_vacant m s count) first (end + 1 - (first + count)) (λ s low high. taken s low (omega (arith, few, high)))
-
-    -- a part begins too soon
-    pub still_taken : (start : ℕ) → AreTaken start → (run : Run) → IsPart m start end run → run.first < start + count → 0 < count → AreTaken (run.first + run.count)
-    still_taken start taken run part near some s low high = elim (cases_lt s start) [
-      | inl before ↦ taken s low before
-      | inr from ↦ elim (cases_lt s run.first) [
-        | inl ahead ↦ least_there (λ page. is_some (get m page)) s count run.first (omega (arith, ahead)) (omega (arith, near, from)) (is_there m start end run part run.first (omega arith) (omega (arith, part.some)))
-        | inr behind ↦ least_there (λ page. is_some (get m page)) s count s (omega arith) (omega (arith, some)) (is_there m start end run part s behind high)
-      ]
-    ]

@@ -8,4 +8,5 @@ pub mod Made
 pub mod Full
 pub mod Walks
 pub mod Least
+pub mod Behind
 pub mod Stretch

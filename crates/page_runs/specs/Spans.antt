@@ -4,6 +4,7 @@
 --     marks      what the runs say of each page
 --     AreRuns      runs that have pages, and none in common
 --     IsEdge      no run goes on across a page's beginning
+--     EndBy      each run that starts before a page ends by another
 --     IsTaken, IsFree      a run has the page;  none has it
 --     AreTaken, IsTakenTo, IsGap      a run has each page of a range;  each from a page on up to another;  no run starts there
 --     IsLastUpTo, IsFirstFrom      the last run that starts up to a page;  the first that starts in a range
@@ -68,6 +69,9 @@ pub record AreRuns (spans : Spans) : Type 0 where
 -- each run that starts before the page ends before it
 abbrev pub IsEdge : ℕ → Spans → Type 0
 IsEdge page spans = (first : ℕ) (span : Span) → span_at spans first ≡ Some span → first < page → first + span.count ≤ page
+
+abbrev pub EndBy : ℕ → ℕ → Spans → Type 0
+EndBy end page spans = (first : ℕ) (span : Span) → span_at spans first ≡ Some span → first < page → first + span.count ≤ end
 
 pub record IsTaken (spans : Spans) (page : ℕ) : Type 0 where
   pub first : ℕ

@@ -7,6 +7,7 @@ mod change;
 mod changes;
 mod edges;
 mod filling;
+mod gaps;
 mod mark;
 mod painting;
 mod runs;

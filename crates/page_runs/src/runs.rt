@@ -1,5 +1,5 @@
 //! What stands at each page of a space.
-ghost use Rattle.std.specs.Prelude.{◌≡◌, ℕ, ◌+◌, ◌-◌, ◌^◌, ◌<◌, ◌≤◌, ◌↔◌, IsTrue, Some, None, IfOk, IfSome, IfNone, OnOk, OnErr, is_some, is_none};
+ghost use Rattle.std.specs.Prelude.{◌≡◌, ◌+◌, ◌-◌, ◌^◌, ◌<◌, ◌≤◌, ◌↔◌, IsTrue, Some, None, IfOk, IfSome, IfNone, OnOk, OnErr, is_some, is_none};
 ghost use Rattle.std.specs.List.{All};
 ghost use Rattle.std.specs.FinMap as map;
 ghost use Rattle.page_map.specs.Change.{least};
@@ -9,9 +9,9 @@ ghost use Rattle.page_runs.specs.Changes.{IsChange, after_changes};
 ghost use Rattle.page_runs.specs.Runs.{AreAlike, IsFullFrom, IsPart, HasNone, IsStretch, is_vacant};
 
 use crate::change::{Change, Effect};
-use crate::changes;
 use crate::mark::Mark;
 use crate::spans::{Spans, first_marked, rest_at};
+use crate::{changes, gaps};
 use corten_base::Perm;
 use std::alloc::{AllocError, Global};
 use std::collections::BTreeMap;
@@ -130,18 +130,7 @@ impl PageRuns {
         requires some { 0 < count }
         ensures { result ≡ least first (end + 1 - (first + count)) (λ start. is_vacant self.now start count) }
     {
-        let mut start = first;
-        while let Some(run) = self.part(start, end) {
-            if run.first - start >= count {
-                return Some(start);
-            }
-            start = run.first + run.count;
-        }
-        if end - start >= count {
-            Some(start)
-        } else {
-            None
-        }
+        gaps::gap(&self.spans, first, end, count)
     }
 
     /// How many pages of a range go on from its first one: without marks after one without, whatever runs they are in.

@@ -69,10 +69,11 @@ pub(crate) fn first_in(spans: &Spans, first: u64, end: u64) -> Option<(u64, Span
     ensures none { IfNone result ((q : ℕ) → first ≤ q → q < end → span_at spans.now q ≡ None) }
     ensures ordered { IsOrdered nat_cmp spans.now }
 {
-    match spans.range(first..end).next() {
-        Some((first, span)) => Some((*first, *span)),
-        None => None,
-    }
+    // Where a range has no end, none is looked up.
+    let Some((at, span)) = spans.range(first..).next() else {
+        return None;
+    };
+    if *at < end { Some((*at, *span)) } else { None }
 }
 
 /// The first run with marks that starts in a range.

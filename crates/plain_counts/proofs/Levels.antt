@@ -1,22 +1,19 @@
 -- The tables of one level after another.
-use Rattle.std.proofs.Common.{◌≡◌, ℕ, zero, suc, ◌+◌, ◌-◌, ◌≤◌, Bool, true, false, cond, not, List, [], ◌∷◌, ◌++◌, append-nil, refl, sym, ap, ◌∙◌, arith}
-use Rattle.std.specs.Prelude.{◌&&◌, ◌||◌, nat_eq}
+use Rattle.std.proofs.Common.{◌≡◌, ℕ, zero, suc, ◌+◌, ◌-◌, ◌≤◌, Bool, true, false, not, [], ◌∷◌, ◌++◌, append-nil, refl, sym, ap, ◌∙◌, arith}
+use Rattle.std.specs.Prelude.{◌&&◌, nat_eq}
 use Rattle.std.specs.List.{range_with_len, flat_map}
 use Rattle.std.specs.Ordering.{nat_cmp, is_le, is_eq, ordering_then}
 use Rattle.std.specs.declared.cmp.Ordering.{Ordering}
 use Rattle.std.specs.declared.cmp.Ordering.TheVariants.{Less, Equal, Greater}
 use Rattle.std.specs.declared.ops.Bound.TheVariants.{Included, Excluded}
-use Rattle.std.specs.Cmp.{IsTotalOrder, unsigned_tied, nat_eq_equiv}
+use Rattle.std.specs.Cmp.{unsigned_tied, nat_eq_equiv}
 use Rattle.std.specs.BTreeMap.Range.{range_contains}
-use Rattle.std.specs.FinMap.{IsAntisymmetric}
 use Rattle.std.specs.FinSet as set
-use Rattle.std.specs.FinSet.{FinSet, same_set, len-empty, contains-retain, contains-items, contains-from_list}
 use Rattle.std.proofs.lemmas.List.Concat.{flat_map-append}
 use Rattle.table_place.specs.declared.Place.{Place}
 use Rattle.table_place.specs.Range.{within}
 use Rattle.table_place.specs.Place.{place_cmp, above, above_in_level}
 use Rattle.page_map.proofs.Range.{inside, outside}
-use Rattle.page_map.proofs.Evaluate.{retain_insert, retain_empty, choose_len, alike}
 use Rattle.plain_counts.proofs.Gaps.{in_range, is_in, bounds}
 use Rattle.plain_counts.specs.Levels.{is_in_level}
 
@@ -33,46 +30,6 @@ unfolding above
 above_more k space first count =
     ap (flat_map (above_in_level space first count)) (range_more 1 k) ∙ flat_map-append (above_in_level space first count) (range_with_len 1 k) ((1 + k) ∷ [])
     ∙ ap (λ ps. flat_map (above_in_level space first count) (range_with_len 1 k) ++ ps) (append-nil (above_in_level space first count (1 + k)))
-
-module _ {K : Type 0} {R : K → K → Ordering} (o : IsTotalOrder R) (same : IsAntisymmetric R) where
-  listed : (s : FinSet R) → s ≡ set.from_list (set.items s)
-  listed s = same_set o same _ _ (λ q. contains-items s q ∙ sym (contains-from_list o (set.items s) q))
-
-  module _ (p q : K → Bool) (apart : (k : K) → p k ≡ true → q k ≡ true → ⊥) where
-    either : K → Bool
-    either k = p k || q k
-
-    one_more : (a b there : Bool) → (a ≡ true → b ≡ true → ⊥) → (m n t : ℕ) → m + n ≡ t →
-        cond a (cond (there && a) m (m + 1)) m + cond b (cond (there && b) n (n + 1)) n ≡ cond (a || b) (cond (there && (a || b)) t (t + 1)) t
-    one_more true true there h m n t e = absurd (h refl refl)
-    one_more true false true h m n t e = e
-    one_more true false false h m n t e = omega (arith, e)
-    one_more false true true h m n t e = e
-    one_more false true false h m n t e = omega (arith, e)
-    one_more false false there h m n t e = e
-
-    len_kept : (t : K → Bool) (s : FinSet R) (k : K) →
-        set.len (set.retain (set.insert s k) t) ≡ cond (t k) (cond (set.contains s k && t k) (set.len (set.retain s t)) (set.len (set.retain s t) + 1)) (set.len (set.retain s t))
-    len_kept t s k =
-        ap set.len (retain_insert o same s k t) ∙ choose_len o same (t k) (set.retain s t) k
-        ∙ ap (λ b. cond (t k) (cond b (set.len (set.retain s t)) (set.len (set.retain s t) + 1)) (set.len (set.retain s t))) (contains-retain s t k (alike o same t k))
-
-    split_list : (ks : List K) →
-        set.len (set.retain (set.from_list {R = R} ks) p) + set.len (set.retain (set.from_list {R = R} ks) q) ≡ set.len (set.retain (set.from_list {R = R} ks) either)
-    unfolding either
-    split_list [] = none (ap set.len (retain_empty o same p) ∙ len-empty R) (ap set.len (retain_empty o same q) ∙ len-empty R) (ap set.len (retain_empty o same either) ∙ len-empty R)
-      where
-        none : {a b c : ℕ} → a ≡ 0 → b ≡ 0 → c ≡ 0 → a + b ≡ c
-        none e f g = omega (arith, e, f, g)
-    split_list (k ∷ ks) =
-        (λ i. len_kept p (set.from_list ks) k i + len_kept q (set.from_list ks) k i)
-        ∙ one_more (p k) (q k) (set.contains (set.from_list ks) k) (apart k) _ _ _ (split_list ks)
-        ∙ sym (len_kept (λ k. p k || q k) (set.from_list ks) k)
-
-    -- the members that pass either of two tests, which none passes both, are as many as those that pass one and the other
-    pub split_len : (s : FinSet R) → set.len (set.retain s p) + set.len (set.retain s q) ≡ set.len (set.retain s (λ k. p k || q k))
-    unfolding either
-    split_len s = ap (λ t. set.len (set.retain t p) + set.len (set.retain t q)) (listed s) ∙ split_list (set.items s) ∙ ap (λ t. set.len (set.retain t (λ k. p k || q k))) (sym (listed s))
 
 -- ---- a part of a set, by the order of its places
 

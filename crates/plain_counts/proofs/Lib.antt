@@ -8,4 +8,4 @@ pub mod Levels
 pub mod Missing
 pub mod Removed
 pub mod Noted
-pub mod Lacks
+pub mod Climbed

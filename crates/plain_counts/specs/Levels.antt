@@ -1,12 +1,10 @@
 -- The tables of one level of a space.
---     tables_of      those of a range of prefixes
---     is_in_level      whether a table is one of them
+--     is_in_level      whether a table is one of a range of prefixes
 --     first_of      the first place of a space
 --     is_between, IsUpTo      whether a place is from one on and before another;  whether two places are in order
 --     is_of, is_elsewhere      whether a table is one of a space;  of another space
 --     Lists      a list of the places of a set, each once
-use Rattle.std.specs.Prelude.{◌≡◌, ℕ, Bool, false, not, ◌&&◌, List, length, map, nat_eq}
-use Rattle.std.specs.List.{range_with_len}
+use Rattle.std.specs.Prelude.{◌≡◌, ℕ, Bool, false, not, ◌&&◌, List, length, nat_eq}
 use Rattle.std.specs.FinSet.{from_list, len}
 use Rattle.std.specs.Ordering.{is_gt}
 use Rattle.std.specs.declared.ops.Bound.TheVariants.{Included, Excluded}
@@ -15,9 +13,6 @@ use Rattle.table_place.specs.declared.Place.{Place}
 use Rattle.table_place.specs.Range.{within}
 use Rattle.table_place.specs.Place.{place_cmp}
 use Rattle.page_map.specs.Tables.{Tables}
-
-abbrev pub tables_of : ℕ → ℕ → ℕ → ℕ → List Place
-tables_of space level first count = map (λ prefix. record { space = space; level = level; prefix = prefix }) (range_with_len first count)
 
 abbrev pub is_in_level : ℕ → ℕ → ℕ → ℕ → Place → Bool
 is_in_level space level first count p = nat_eq p.space space && (nat_eq p.level level && within first count p.prefix)

@@ -1,13 +1,13 @@
 //! The page tables below the root that a change of whole ranges of pages can lack: those that a range cuts, with a page of
 //! it in their spans and a page outside it.
-ghost use Rattle.std.specs.Prelude.{◌≡◌, ℕ, ◌+◌, ◌-◌, ◌<◌, ◌≤◌, ◌&&◌, not, ◌∷◌, [], OnOk, IfOk};
-ghost use Rattle.std.specs.List.{All, filter, flat_map};
+ghost use Rattle.std.specs.Prelude.{◌≡◌, ◌+◌, ◌-◌, ◌≤◌, ◌∷◌, [], OnOk, IfOk};
+ghost use Rattle.std.specs.List.{All};
 ghost use Rattle.std.specs.FinSet as set;
 ghost use Rattle.table_place.specs.Range.{lies_in};
 ghost use Rattle.table_place.specs.Place.{cut_by, place_of, span_first, span_count};
-ghost use Rattle.page_map.specs.Tables.{missing, need};
+ghost use Rattle.page_map.specs.Tables.{missing};
 ghost use Rattle.plain_counts.specs.Levels.{Lists};
-ghost use Rattle.plain_counts.specs.Cut.{is_cut, cut_in_level, IsShort};
+ghost use Rattle.plain_counts.specs.Cut.{are_there, cut_among, cut_by_all, cut_in_level, with_missing, HaveParents, IsShort};
 
 use crate::tables::{Tables, span};
 use std::alloc::{AllocError, Global};
@@ -48,74 +48,48 @@ fn table_of(space: u8, level: u8, page: u64) -> Place
 }
 
 impl Tables {
-    /// Whether a table is missing that a range cuts, where the range has a page in its span.
-    fn lacks(&self, place: &Place, pages: Pages) -> bool
-        requires { place.now.level ≤ 4 }
-        ensures { result ≡ (is_cut pages.first pages.count place.now && not (set.contains self.now place.now)) }
-    {
-        !pages.covers(place) && !self.contains(place)
-    }
-
-    /// How many missing tables of one level a range cuts.
-    fn level_need(&self, space: u8, level: u8, pages: Pages) -> u64
-        requires level { level ≤ 4 }
-        requires short { IsShort pages }
-        ensures value { result ≡ need (cut_in_level space pages.first pages.count level) self.now }
-        ensures few { result ≤ 2 }
-    {
-        let first = table_of(space, level, pages.first);
-        let last = table_of(space, level, pages.first + pages.count - 1);
-        let lacks_first = u64::from(self.lacks(&first, pages));
-        if last.prefix == first.prefix {
-            return lacks_first;
-        }
-        lacks_first + u64::from(self.lacks(&last, pages))
-    }
-
-    /// How many missing tables a range cuts, in the time of the levels and without memory.
-    pub fn need_cut(&self, levels: u8, space: u8, pages: Pages) -> u64
-        requires some { 1 ≤ levels }
-        requires few { levels ≤ 5 }
-        requires short { IsShort pages }
-        ensures value { result ≡ need (cut_by levels space pages.first pages.count) self.now }
-        ensures few { result ≤ 10 }
-    {
-        let mut need = 0;
-        for level in 1..levels {
-            need += self.level_need(space, level, pages);
-        }
-        need
-    }
-
-    /// Puts a table into those found, where it is missing and the range cuts it.
-    fn note(&self, place: Place, pages: Pages, found: &mut Tables) -> Result<(), AllocError>
+    /// Puts a table into those found, where it is missing and the range cuts it, and answers whether it is there.
+    fn note(&self, place: Place, pages: Pages, found: &mut Tables) -> Result<bool, AllocError>
         requires { place.level ≤ 4 }
-        ensures { OnOk result (found.new ≡ set.union found.old (missing (filter (is_cut pages.first pages.count) (place ∷ [])) self.now)) }
+        ensures noted { OnOk result (found.new
+            ≡ with_missing found.old (cut_among pages (place ∷ [])) self.now) }
+        ensures there { IfOk result (λ there. there ≡ set.contains self.now place) }
     {
-        if self.lacks(&place, pages) {
+        if self.contains(&place) {
+            return Ok(true);
+        }
+        if !pages.covers(&place) {
             found.insert(place)?;
         }
-        Ok(())
+        Ok(false)
     }
 
-    /// Puts the missing tables of one level that a range cuts into those found. Only those above its first and its last page can be.
+    /// Puts the missing tables of one level that a range cuts into those found. Only those above its first and its last page
+    /// can be: it answers whether these are there.
     fn note_level(
         &self,
         space: u8,
         level: u8,
         pages: Pages,
         found: &mut Tables,
-    ) -> Result<(), AllocError>
+    ) -> Result<bool, AllocError>
         requires level { level ≤ 4 }
         requires short { IsShort pages }
-        ensures { OnOk result (found.new ≡ set.union found.old (missing (cut_in_level space pages.first pages.count level) self.now)) }
+        ensures noted { OnOk result (found.new
+            ≡ with_missing found.old (cut_in_level space pages.first pages.count level) self.now) }
+        ensures there { IfOk result (λ there. there ≡ are_there space level pages self.now) }
     {
-        let last = pages.first + pages.count - 1;
-        self.note(table_of(space, level, pages.first), pages, found)?;
-        self.note(table_of(space, level, last), pages, found)
+        let first = table_of(space, level, pages.first);
+        let last = table_of(space, level, pages.first + pages.count - 1);
+        let near = self.note(first, pages, found)?;
+        if last.prefix == first.prefix {
+            return Ok(near);
+        }
+        let far = self.note(last, pages, found)?;
+        Ok(near && far)
     }
 
-    /// Puts the missing tables that a range cuts into those found.
+    /// Puts the missing tables that a range cuts into those found. Above tables that are there none is missing.
     fn note_range(
         &self,
         levels: u8,
@@ -126,10 +100,14 @@ impl Tables {
         requires some { 1 ≤ levels }
         requires few { levels ≤ 5 }
         requires short { IsShort pages }
-        ensures { OnOk result (found.new ≡ set.union found.old (missing (cut_by levels space pages.first pages.count) self.now)) }
+        requires parents { HaveParents levels self.now }
+        ensures { OnOk result (found.new
+            ≡ with_missing found.old (cut_by levels space pages.first pages.count) self.now) }
     {
         for level in 1..levels {
-            self.note_level(space, level, pages, found)?;
+            if self.note_level(space, level, pages, found)? {
+                return Ok(());
+            }
         }
         Ok(())
     }
@@ -145,7 +123,9 @@ impl Tables {
         requires some { 1 ≤ levels }
         requires few { levels ≤ 5 }
         requires short { All IsShort ranges.now }
-        ensures { IfOk result (λ tables. Lists (missing (flat_map (λ r. cut_by levels space r.first r.count) ranges.now) self.now) tables.items) }
+        requires parents { HaveParents levels self.now }
+        ensures { IfOk result (λ tables.
+            Lists (missing (cut_by_all levels space ranges.now) self.now) tables.items) }
     {
         let mut found = Tables::new(alloc);
         for pages in ranges {

@@ -3,12 +3,11 @@ ghost use Rattle.std.specs.Prelude.{◌≡◌, ℕ, ◌-◌, ◌<◌, ◌≤◌,
 ghost use Rattle.std.specs.FinSet as set;
 ghost use Rattle.table_place.specs.Place.{is_inside};
 ghost use Rattle.table_place.specs.declared.Place.{Place};
-ghost use Rattle.plain_counts.specs.Levels.{is_in_level, is_of, is_elsewhere, is_between, first_of, IsUpTo, Lists};
+ghost use Rattle.plain_counts.specs.Levels.{is_of, is_elsewhere, is_between, first_of, IsUpTo, Lists};
 
 use std::alloc::{AllocError, Global};
 use std::collections::BTreeSet;
 use std::marker::Model;
-use std::ops::Range;
 use table_place::Place;
 
 /// The places of page tables.
@@ -101,24 +100,6 @@ impl Tables {
         Ok(())
     }
 
-    /// How many tables of one level there are, from one prefix up to another.
-    pub fn level_len(&self, space: u8, level: u8, prefixes: Range<u64>) -> usize
-        requires { prefixes.start ≤ prefixes.end }
-        ensures { result ≡ set.len (set.retain self.now (is_in_level space level prefixes.start (prefixes.end - prefixes.start))) }
-    {
-        let low = Place {
-            space,
-            level,
-            prefix: prefixes.start,
-        };
-        let high = Place {
-            space,
-            level,
-            prefix: prefixes.end,
-        };
-        self.places.range(low..high).count()
-    }
-
     /// The tables of a space.
     pub fn of_space(&self, alloc: Global, space: u8) -> Result<Vec<Place>, AllocError>
         requires { space < 64 }
@@ -183,6 +164,9 @@ impl Tables {
         ensures some { IfSome result (λ p. (set.contains self.now p ≡ true) × (is_between low high p ≡ true)) }
         ensures none { IfNone result ((p : Place) → is_between low high p ≡ true → set.contains self.now p ≡ false) }
     {
+        if low == high {
+            return None;
+        }
         match self.places.range(low..high).next() {
             Some(place) => Some(*place),
             None => None,

@@ -2,6 +2,7 @@
 ghost use Rattle.std.specs.Prelude.{◌≡◌, ℕ, ◌+◌, ◌-◌, ◌*◌, ◌%◌, ◌<◌, ◌≤◌, ◌^◌, List, length, IfOk, IfErr, IsTrue, None};
 ghost use Rattle.table_place.specs.Place.{is_user_page};
 ghost use Rattle.page_map.specs.Access.{first_page, outside_user_pages, loaded};
+ghost use Rattle.plain_counts.specs.Cut.{HaveParents};
 ghost use Rattle.plain_counts.specs.Levels.{Lists};
 ghost use Rattle.plain_spaces.specs.Reach.{reaching, last_page, lacked, after_write, IsUserAccess, IsResident};
 ghost use Rattle.plain_spaces.specs.Wants.{StopsFor};
@@ -116,6 +117,7 @@ impl Access {
     ) -> Result<Vec<Place>, AllocError>
         requires some { 1 ≤ levels }
         requires few { levels ≤ 5 }
+        requires parents { HaveParents levels tables.now }
         ensures { IfOk result (λ found. Lists (lacked levels space self tables.now) found.items) }
     {
         let near = Pages {

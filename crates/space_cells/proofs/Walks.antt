@@ -1,50 +1,21 @@
 -- Going over the held pages of a range, one by one.
---     first_held      what the range of the tree shows first
 --     next_given, none_given, first_number, no_numbers      the numbers from the next held page on;  where no page is held
 --     nothing_cleared, one_more, all_cleared      pages that are let go of
 --     one_copied, all_copied      pages that are copied
-use Rattle.std.proofs.Common.{◌≡◌, ℕ, zero, suc, ◌+◌, ◌-◌, ◌<◌, ◌≤◌, Bool, true, false, cond, List, [], ◌∷◌, ◌++◌, append_assoc, refl, sym, ap, subst, ◌∙◌, arith}
+use Rattle.std.proofs.Common.{◌≡◌, ℕ, zero, suc, ◌+◌, ◌-◌, ◌<◌, ◌≤◌, Bool, true, false, cond, List, [], ◌∷◌, ◌++◌, append_assoc, refl, sym, ap, ◌∙◌, arith}
 use mathlib.Core.Logic.{inl, inr}
-use Rattle.std.specs.Prelude.{Option, Some, None, IfSome}
+use Rattle.std.specs.Prelude.{Option, Some, None}
 use Rattle.std.specs.Option.{option_map, option_or}
-use Rattle.std.specs.List.{cons_option, filter_map, range_with_len, slice_get}
+use Rattle.std.specs.List.{cons_option, filter_map, range_with_len}
 use Rattle.std.specs.Map.{lookup}
-use Rattle.std.specs.Ordering.{nat_cmp, is_gt}
-use Rattle.std.specs.declared.cmp.Ordering.TheVariants.{Less, Equal}
-use Rattle.std.specs.declared.ops.Bound.TheVariants.{Included, Excluded}
-use Rattle.std.specs.Cmp.{nat_cmp_is, ranked, unsigned_tied}
+use Rattle.std.specs.Ordering.{nat_cmp}
+use Rattle.std.specs.Cmp.{unsigned_tied}
 use Rattle.std.specs.BTreeMap.{is_at}
-use Rattle.std.specs.BTreeMap.Range.{IsRangeOf, IsEntryInRange, IsLeBy}
 use Rattle.std.proofs.lemmas.Bool.{cases_eq, cases_lt, eq-eqb, ne_eqb}
 use Rattle.std.proofs.lemmas.List.{append-nil}
-use Rattle.std.proofs.lemmas.Map.Keys.{le_from_not_gt}
-use Rattle.page_runs.proofs.Found.{none_if}
 use Rattle.space_cells.specs.declared.held.Number.{Number}
 use Rattle.space_cells.specs.declared.held.HeldPage.{HeldPage}
 use Rattle.space_cells.specs.Held.{HeldPages, held_at, number_held, numbers_held, Clears, IsFirstHeld, Sets}
-
-not_above : (k q : ℕ) → k ≤ q → is_gt (nat_cmp k q) ≡ false
-not_above k q h = elim (cases_lt k q) [
-  | inl l ↦ ap is_gt (sym (nat_cmp_is k q Less l))
-  | inr m ↦ ap is_gt (sym (nat_cmp_is k q Equal (omega arith)))
-]
-
-pub first_held : (pages : HeldPages) (low end page : ℕ) (held : HeldPage) (r t : List (ℕ × HeldPage)) → IsRangeOf nat_cmp (Included low) (Excluded end) pages r → r ≡ (page, held) ∷ t →
-    IsFirstHeld pages low end page held.number
-first_held pages low end page held r t range step =
-    let entry : IsEntryInRange nat_cmp (Included low) (Excluded end) pages (page, held) =
-    subst (λ l. IfSome (slice_get l 0) (IsEntryInRange nat_cmp (Included low) (Excluded end) pages)) step range.1 in
-    let before : page < end = ranked page end Less (sym entry.0.1) in
-    record {
-      from = le_from_not_gt low page entry.0.0;
-      before = before;
-      there = ap (option_map (λ held. held.number)) entry.1;
-      least = λ q a b. none_if (held_at pages q) (λ some.
-          let high : q < end = omega (arith, b, before) in
-          let at : IsLeBy nat_cmp page q = subst (λ l. IfSome (slice_get l 0) (λ e. IsLeBy nat_cmp e.0 q)) step
-          (range.2 q (not_above low q a, sym (nat_cmp_is q end Less high)) some) in
-          let up : page ≤ q = le_from_not_gt page q at in omega (arith, b, up));
-    }
 
 module _ {B : Type 0} (h : ℕ → Option B) where
   pub filter_none : (first n : ℕ) → ((q : ℕ) → first ≤ q → q < first + n → h q ≡ None) → filter_map h (range_with_len first n) ≡ []

@@ -1,5 +1,5 @@
 -- Operations as changes: they leave the same cells.
-use Rattle.std.proofs.Common.{◌≡◌, ◌+◌, ◌^◌, ◌<◌, List, [], ◌∷◌, refl, ap, ◌∙◌, arith}
+use Rattle.std.proofs.Common.{◌≡◌, ◌+◌, ◌^◌, ◌<◌, ◌≤◌, List, [], ◌∷◌, length, slice_index_or, refl, ap, ◌∙◌, arith}
 use Rattle.std.specs.Prelude.{map}
 use Rattle.std.specs.List.{All}
 use Rattle.std.proofs.lemmas.List.Elements.{All-cons, All-head, All-tail, All-map}
@@ -21,6 +21,12 @@ after_one (op.Protect at len perm) cells = refl
 pub after_all : (os : List TxnOp) (cells : AddressSpace) → cells_after_all cells (map change_of os) ≡ after_ops os cells
 after_all [] cells = refl
 after_all (o ∷ os) cells = after_all os (cells_after cells (change_of o)) ∙ ap (after_ops os) (after_one o cells)
+
+-- one alone
+pub after_only : (os : List TxnOp) (cells : AddressSpace) (none : TxnOp) → 1 ≤ length os → length os < 2 → cells_after_all cells (change_of (slice_index_or os 0 none) ∷ []) ≡ after_ops os cells
+after_only [] cells none some few = absurd (omega (arith, some))
+after_only (o ∷ []) cells none some few = after_one o cells
+after_only (o ∷ p ∷ os) cells none some few = absurd (omega (arith, few))
 
 abbrev Fits : TxnOp → Type 0
 Fits o = first_index o + op_pages o < 2 ^ 64

@@ -22,7 +22,7 @@ fn effect_of(op: &TxnOp) -> Effect
 }
 
 /// The change that an operation makes.
-fn change_of(op: &TxnOp) -> Change
+pub(crate) fn change_of(op: &TxnOp) -> Change
     ensures { result ≡ change_of op.now }
 {
     Change {

@@ -11,7 +11,7 @@ ghost use Rattle.plain_spaces.specs.Numbers.{Keeps};
 ghost use Rattle.txn_plan.specs.Changes.{first_index};
 ghost use Rattle.txn_plan.specs.Needs.{IsInSpan};
 
-use crate::changes::changes_of;
+use crate::changes::{change_of, changes_of};
 use corten_base::TxnOp;
 use plain_counts::{Counts, Tables};
 use plain_spaces::apply;
@@ -19,7 +19,7 @@ use space_cells::AddressSpace;
 use std::alloc::{AllocError, Global};
 use table_place::Place;
 
-/// Makes operations in order on the cells of a space, all or none.
+/// Makes operations in order on the cells of a space, all or none. One alone is listed without memory.
 fn make_all(
     alloc: Global,
     cells: &mut AddressSpace,
@@ -33,6 +33,9 @@ fn make_all(
     ensures counts { OnOk result (Follow counts.old counts.new cells.old cells.new) }
     ensures kept { OnErr result (Keeps cells.old cells.new counts.old counts.new) }
 {
+    if let [op] = ops {
+        return apply(alloc, cells, counts, &[change_of(op)]);
+    }
     let changes = changes_of(alloc, ops)?;
     apply(alloc, cells, counts, &changes)
 }

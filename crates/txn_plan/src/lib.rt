@@ -15,4 +15,4 @@ pub use committing::commit;
 pub use forgetting::forget_unmapped;
 pub use judge::first_undone;
 pub use need::missing_tables;
-pub use operation::{is_length, is_mappable};
+pub use operation::{is_length, is_mappable, pages};

@@ -2,6 +2,7 @@
 ghost use Rattle.std.specs.Prelude.{◌≡◌, ◌≤◌, map, IfOk};
 ghost use Rattle.std.specs.List.{All};
 ghost use Rattle.page_map.specs.Tables.{missing};
+ghost use Rattle.plain_counts.specs.Cut.{HaveParents};
 ghost use Rattle.plain_counts.specs.Levels.{Lists};
 ghost use Rattle.txn_plan.specs.Needs.{IsInSpan, cut_by_ops, range_of};
 
@@ -44,6 +45,7 @@ pub fn missing_tables(
     requires some { 1 ≤ levels }
     requires few { levels ≤ 5 }
     requires span { All IsInSpan ops.now }
+    requires parents { HaveParents levels tables.now }
     ensures { IfOk result (λ found.
         Lists (missing (cut_by_ops levels space ops.now) tables.now) found.items) }
 {

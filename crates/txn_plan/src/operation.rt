@@ -33,7 +33,7 @@ fn byte_len(op: &TxnOp) -> u64
 }
 
 /// How many pages a length covers.
-fn pages(len: u64) -> u64
+pub fn pages(len: u64) -> u64
     ensures count { result ≡ pages_of len }
     ensures small { result < 2 ^ 53 }
 {
