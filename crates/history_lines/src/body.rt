@@ -17,7 +17,7 @@ use std::alloc::Global;
 use text_words::Lines;
 
 /// The files, the entries, and the numbers of frames behind them.
-#[derive(Debug, Drop)]
+#[derive(Drop)]
 pub(crate) struct Body {
     pub(crate) shelf: Shelf,
     pub(crate) entries: EntryList,

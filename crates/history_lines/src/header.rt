@@ -13,7 +13,7 @@ use mm_script::{ScriptFault, limit_of};
 use text_words::Lines;
 
 /// The version of a text, and the limits of its machine.
-#[derive(Clone, Copy, Debug, PartialEq, Eq)]
+#[derive(Clone, Copy)]
 pub(crate) struct Header {
     pub(crate) version: u8,
     pub(crate) limits: Limits,

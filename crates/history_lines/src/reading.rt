@@ -19,7 +19,7 @@ use std::alloc::Global;
 use text_words::Lines;
 
 /// The numbers of the last two lines.
-#[derive(Clone, Copy, Debug, PartialEq, Eq)]
+#[derive(Clone, Copy)]
 struct Ends {
     swap: Counts,
     tables: Counts,

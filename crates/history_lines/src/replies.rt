@@ -1,6 +1,6 @@
 //! Replies as words.
 ghost use Rattle.std.specs.Prelude.{◌≡◌, ◌≢◌, ◌++◌, [], ◌∷◌, ℕ, List, OnOk, OnErr, IfOk, IfSome, IfNone, codes};
-ghost use Rattle.text_words.specs.Spelling.{number, address};
+ghost use Rattle.text_words.specs.Spelling.{number, address, hex};
 ghost use Rattle.text_words.specs.Layout.{joined};
 ghost use Rattle.corten_base.specs.declared.calls.Reply.{Reply};
 ghost use Rattle.corten_base.specs.declared.calls.Why.{Why};
@@ -13,6 +13,22 @@ use corten_base::{Reply, Why};
 use mm_script::{next_address, next_bytes, next_number, next_within};
 use std::alloc::{AllocError, Global};
 use text_words::{Word, Words, push_words};
+
+/// Adds a word.
+fn push_name(out: &mut Vec<u8>, name: &[u8]) -> Result<(), AllocError>
+    ensures ok { OnOk result (out.new.items ≡ out.old.items ++ joined (name.now ∷ [])) }
+    ensures err { OnErr result (out.new.items ≡ out.old.items) }
+{
+    push_words(out, &[Word::Plain(name)])
+}
+
+/// Adds a word and bytes.
+fn push_bytes(out: &mut Vec<u8>, name: &[u8], bytes: &[u8]) -> Result<(), AllocError>
+    ensures ok { OnOk result (out.new.items ≡ out.old.items ++ joined (name.now ∷ hex bytes.now ∷ [])) }
+    ensures err { OnErr result (out.new.items ≡ out.old.items) }
+{
+    push_words(out, &[Word::Plain(name), Word::Hex(bytes)])
+}
 
 /// Adds a word and an address.
 fn push_at(out: &mut Vec<u8>, name: &[u8], at: u64) -> Result<(), AllocError>
@@ -87,19 +103,17 @@ pub(crate) fn push_reply(out: &mut Vec<u8>, reply: &Reply) -> Result<(), AllocEr
     ensures err { OnErr result (out.new.items ≡ out.old.items) }
 {
     match reply {
-        Reply::Ok => push_words(out, &[Word::Plain(b"ok")]),
+        Reply::Ok => push_name(out, b"ok"),
         Reply::At(at) => push_at(out, b"at", *at),
-        Reply::Bytes(bytes) => {
-            push_words(out, &[Word::Plain(b"bytes"), Word::Hex(bytes.bytes())])
-        }
+        Reply::Bytes(bytes) => push_bytes(out, b"bytes", bytes.bytes()),
         Reply::Space(space) => push_count(out, b"space", u64::from(*space)),
         Reply::Moved(pages) => push_count(out, b"moved", u64::from(*pages)),
-        Reply::Done => push_words(out, &[Word::Plain(b"done")]),
+        Reply::Done => push_name(out, b"done"),
         Reply::Undone(operation, why) => push_undone(out, *operation, *why),
-        Reply::Einval => push_words(out, &[Word::Plain(b"einval")]),
-        Reply::NoSpace => push_words(out, &[Word::Plain(b"nospace")]),
-        Reply::NoSpaces => push_words(out, &[Word::Plain(b"nospaces")]),
-        Reply::NoRoom => push_words(out, &[Word::Plain(b"noroom")]),
+        Reply::Einval => push_name(out, b"einval"),
+        Reply::NoSpace => push_name(out, b"nospace"),
+        Reply::NoSpaces => push_name(out, b"nospaces"),
+        Reply::NoRoom => push_name(out, b"noroom"),
         Reply::Exists(at) => push_at(out, b"exists", *at),
         Reply::Hole(at) => push_at(out, b"hole", *at),
         Reply::Segv(at) => push_at(out, b"segv", *at),

@@ -4,7 +4,7 @@ ghost use Rattle.history_lines.specs.declared.reply_names.ReplyName.{ReplyName};
 ghost use Rattle.history_lines.specs.ReplyNames.{name_word};
 
 /// The first word of a reply.
-#[derive(Clone, Copy, Debug, PartialEq, Eq)]
+#[derive(Clone, Copy)]
 pub(crate) enum ReplyName {
     Ok,
     At,
@@ -27,50 +27,65 @@ pub(crate) enum ReplyName {
     NoSwap,
 }
 
+/// Each name.
+const NAMES: [ReplyName; 19] = [
+    ReplyName::Ok,
+    ReplyName::At,
+    ReplyName::Bytes,
+    ReplyName::Space,
+    ReplyName::Moved,
+    ReplyName::Done,
+    ReplyName::Undone,
+    ReplyName::Einval,
+    ReplyName::NoSpace,
+    ReplyName::NoSpaces,
+    ReplyName::NoRoom,
+    ReplyName::Exists,
+    ReplyName::Hole,
+    ReplyName::Segv,
+    ReplyName::Denied,
+    ReplyName::Bus,
+    ReplyName::NoTables,
+    ReplyName::NoFrames,
+    ReplyName::NoSwap,
+];
+
+/// The word of a name.
+fn word_of(name: ReplyName) -> &'static [u8]
+    ensures { result.now ≡ name_word name }
+{
+    match name {
+        ReplyName::Ok => b"ok",
+        ReplyName::At => b"at",
+        ReplyName::Bytes => b"bytes",
+        ReplyName::Space => b"space",
+        ReplyName::Moved => b"moved",
+        ReplyName::Done => b"done",
+        ReplyName::Undone => b"undone",
+        ReplyName::Einval => b"einval",
+        ReplyName::NoSpace => b"nospace",
+        ReplyName::NoSpaces => b"nospaces",
+        ReplyName::NoRoom => b"noroom",
+        ReplyName::Exists => b"exists",
+        ReplyName::Hole => b"hole",
+        ReplyName::Segv => b"segv",
+        ReplyName::Denied => b"denied",
+        ReplyName::Bus => b"bus",
+        ReplyName::NoTables => b"notables",
+        ReplyName::NoFrames => b"noframes",
+        ReplyName::NoSwap => b"noswap",
+    }
+}
+
 /// Which reply's first word this is.
 pub(crate) fn reply_name(word: &[u8]) -> Option<ReplyName>
     ensures found { IfSome result (λ name. word.now ≡ name_word name) }
     ensures none { IfNone result ((name : ReplyName) → word.now ≢ name_word name) }
 {
-    if word == b"ok".as_slice() {
-        Some(ReplyName::Ok)
-    } else if word == b"at".as_slice() {
-        Some(ReplyName::At)
-    } else if word == b"bytes".as_slice() {
-        Some(ReplyName::Bytes)
-    } else if word == b"space".as_slice() {
-        Some(ReplyName::Space)
-    } else if word == b"moved".as_slice() {
-        Some(ReplyName::Moved)
-    } else if word == b"done".as_slice() {
-        Some(ReplyName::Done)
-    } else if word == b"undone".as_slice() {
-        Some(ReplyName::Undone)
-    } else if word == b"einval".as_slice() {
-        Some(ReplyName::Einval)
-    } else if word == b"nospace".as_slice() {
-        Some(ReplyName::NoSpace)
-    } else if word == b"nospaces".as_slice() {
-        Some(ReplyName::NoSpaces)
-    } else if word == b"noroom".as_slice() {
-        Some(ReplyName::NoRoom)
-    } else if word == b"exists".as_slice() {
-        Some(ReplyName::Exists)
-    } else if word == b"hole".as_slice() {
-        Some(ReplyName::Hole)
-    } else if word == b"segv".as_slice() {
-        Some(ReplyName::Segv)
-    } else if word == b"denied".as_slice() {
-        Some(ReplyName::Denied)
-    } else if word == b"bus".as_slice() {
-        Some(ReplyName::Bus)
-    } else if word == b"notables".as_slice() {
-        Some(ReplyName::NoTables)
-    } else if word == b"noframes".as_slice() {
-        Some(ReplyName::NoFrames)
-    } else if word == b"noswap".as_slice() {
-        Some(ReplyName::NoSwap)
-    } else {
-        None
+    for name in NAMES.as_slice() {
+        if word == word_of(*name) {
+            return Some(*name);
+        }
     }
+    None
 }

@@ -4,7 +4,7 @@ ghost use Rattle.mm_script.specs.declared.call_names.CallName.{CallName};
 ghost use Rattle.mm_script.specs.CallNames.{name_word};
 
 /// The first word of a call.
-#[derive(Clone, Copy, Debug, PartialEq, Eq)]
+#[derive(Clone, Copy)]
 pub(crate) enum CallName {
     Map,
     Unmap,
@@ -22,40 +22,55 @@ pub(crate) enum CallName {
     Remap,
 }
 
+/// Each name.
+const NAMES: [CallName; 14] = [
+    CallName::Map,
+    CallName::Unmap,
+    CallName::Protect,
+    CallName::Load,
+    CallName::Store,
+    CallName::Fault,
+    CallName::Spawn,
+    CallName::Fork,
+    CallName::Exit,
+    CallName::SwapOut,
+    CallName::SwapIn,
+    CallName::Txn,
+    CallName::DontNeed,
+    CallName::Remap,
+];
+
+/// The word of a name.
+fn word_of(name: CallName) -> &'static [u8]
+    ensures { result.now ≡ name_word name }
+{
+    match name {
+        CallName::Map => b"map",
+        CallName::Unmap => b"unmap",
+        CallName::Protect => b"protect",
+        CallName::Load => b"load",
+        CallName::Store => b"store",
+        CallName::Fault => b"fault",
+        CallName::Spawn => b"spawn",
+        CallName::Fork => b"fork",
+        CallName::Exit => b"exit",
+        CallName::SwapOut => b"out",
+        CallName::SwapIn => b"in",
+        CallName::Txn => b"txn",
+        CallName::DontNeed => b"dontneed",
+        CallName::Remap => b"remap",
+    }
+}
+
 /// Which call's first word this is.
 pub(crate) fn call_name(word: &[u8]) -> Option<CallName>
     ensures found { IfSome result (λ name. word.now ≡ name_word name) }
     ensures none { IfNone result ((name : CallName) → word.now ≢ name_word name) }
 {
-    if word == b"map".as_slice() {
-        Some(CallName::Map)
-    } else if word == b"unmap".as_slice() {
-        Some(CallName::Unmap)
-    } else if word == b"protect".as_slice() {
-        Some(CallName::Protect)
-    } else if word == b"load".as_slice() {
-        Some(CallName::Load)
-    } else if word == b"store".as_slice() {
-        Some(CallName::Store)
-    } else if word == b"fault".as_slice() {
-        Some(CallName::Fault)
-    } else if word == b"spawn".as_slice() {
-        Some(CallName::Spawn)
-    } else if word == b"fork".as_slice() {
-        Some(CallName::Fork)
-    } else if word == b"exit".as_slice() {
-        Some(CallName::Exit)
-    } else if word == b"out".as_slice() {
-        Some(CallName::SwapOut)
-    } else if word == b"in".as_slice() {
-        Some(CallName::SwapIn)
-    } else if word == b"txn".as_slice() {
-        Some(CallName::Txn)
-    } else if word == b"dontneed".as_slice() {
-        Some(CallName::DontNeed)
-    } else if word == b"remap".as_slice() {
-        Some(CallName::Remap)
-    } else {
-        None
+    for name in NAMES.as_slice() {
+        if word == word_of(*name) {
+            return Some(*name);
+        }
     }
+    None
 }

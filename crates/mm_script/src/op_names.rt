@@ -4,7 +4,7 @@ ghost use Rattle.mm_script.specs.declared.op_names.OpName.{OpName};
 ghost use Rattle.mm_script.specs.CallNames.{op_name_word};
 
 /// The first word of an operation.
-#[derive(Clone, Copy, Debug, PartialEq, Eq)]
+#[derive(Clone, Copy)]
 pub(crate) enum OpName {
     Map,
     Unmap,

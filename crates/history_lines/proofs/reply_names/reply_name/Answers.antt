@@ -1,36 +1,59 @@
--- A word that is the word of no name: each test said that it differs.
-use Rattle.std.proofs.Common.{◌≡◌, ◌≢◌, ℕ, false, List, codes, sym, ◌∙◌}
+-- The names before the place where the loop stands were tried, and each name stands at a place of the table.
+use Rattle.std.proofs.Common.{◌≡◌, ◌≢◌, ℕ, ◌+◌, ◌<◌, ◌≤◌, ltb, true, List, length, get_or, refl, sym, ap, ◌∙◌, subst, ⊎_elim, arith, false}
 use Rattle.std.specs.Str.{bytes_eq}
-use Rattle.std.proofs.lemmas.Bool.{false≢true}
+use Rattle.std.proofs.lemmas.Bool.{false≢true, ltb-true, cases_lt}
 use Rattle.std.proofs.lemmas.Slice.Eq.{bytes_eq-Decides}
 use Rattle.history_lines.specs.declared.reply_names.ReplyName.{ReplyName}
 use Rattle.history_lines.specs.declared.reply_names.ReplyName.TheVariants as name
+use Rattle.history_lines.specs.declared.reply_names.TheConstants.{NAMES}
 use Rattle.history_lines.specs.ReplyNames.{name_word}
 use Rattle.history_lines.proofs.reply_names.reply_name.Goals as goal
 
 differs : (word tested other : List ℕ) → false ≡ bytes_eq word tested → tested ≡ other → word ≢ other
 differs word tested other apart same are = false≢true (apart ∙ (bytes_eq-Decides word tested).1 (are ∙ sym same))
 
-pub returns-else-eq-19-clause-none : goal.returns-else-eq-19-clause-none
-returns-else-eq-19-clause-none c = go
+abbrev named : List ReplyName → ℕ → List ℕ
+named names k = name_word (get_or names k name.Ok)
+
+one_more : (word : List ℕ) (names : List ReplyName) (index : ℕ) → ((k : ℕ) → k < index → word ≢ named names k) → word ≢ named names index → (k : ℕ) → k < index + 1 → word ≢ named names k
+one_more word names index before here k below are =
+    ⊎_elim (λ (less : k < index). before k less are) (λ (past : index ≤ k). let same : k ≡ index = omega arith in here (are ∙ ap (λ i. named names i) same)) (cases_lt k index)
+
+pub loop-name-init : goal.loop-name-init
+loop-name-init c = λ k below are. omega (arith, below)
+
+pub loop-name-preserved : goal.loop-name-preserved
+loop-name-preserved c =
+    let index : ℕ = c.loop-name.name-index in
+    let is : c.word_of.result.now ≡ named NAMES index = cc (c.word_of.ensures, c.as_slice-name-items.ensures) in
+    one_more c.args.word.now NAMES index c.loop-name.invariant (differs c.args.word.now c.word_of.result.now (named NAMES index) c.if-eq.ensures is)
+
+pub returns-clause-none : goal.returns-clause-none
+returns-clause-none c = go
   where
+    all : length NAMES ≤ c.loop-name.name-index
+    all = subst (λ (names : List ReplyName). length names ≤ c.loop-name.name-index) c.as_slice-name-items.ensures c.loop-name-test.false
+
+    tried : (k : ℕ) → ltb k (length NAMES) ≡ true → c.args.word.now ≢ named NAMES k
+    tried k below = c.loop-name.invariant k (omega (arith, all, ltb-true k (length NAMES) below))
+
     go : (n : ReplyName) → c.args.word.now ≢ name_word n
-    go name.Ok = differs c.args.word.now c.as_slice.result.now (codes "ok") c.if-eq.ensures c.as_slice.ensures
-    go name.At = differs c.args.word.now c.as_slice-else-eq.result.now (codes "at") c.if-eq-2.ensures c.as_slice-else-eq.ensures
-    go name.Bytes = differs c.args.word.now c.as_slice-else-eq-2.result.now (codes "bytes") c.if-eq-3.ensures c.as_slice-else-eq-2.ensures
-    go name.Space = differs c.args.word.now c.as_slice-else-eq-3.result.now (codes "space") c.if-eq-4.ensures c.as_slice-else-eq-3.ensures
-    go name.Moved = differs c.args.word.now c.as_slice-else-eq-4.result.now (codes "moved") c.if-eq-5.ensures c.as_slice-else-eq-4.ensures
-    go name.Done = differs c.args.word.now c.as_slice-else-eq-5.result.now (codes "done") c.if-eq-6.ensures c.as_slice-else-eq-5.ensures
-    go name.Undone = differs c.args.word.now c.as_slice-else-eq-6.result.now (codes "undone") c.if-eq-7.ensures c.as_slice-else-eq-6.ensures
-    go name.Einval = differs c.args.word.now c.as_slice-else-eq-7.result.now (codes "einval") c.if-eq-8.ensures c.as_slice-else-eq-7.ensures
-    go name.NoSpace = differs c.args.word.now c.as_slice-else-eq-8.result.now (codes "nospace") c.if-eq-9.ensures c.as_slice-else-eq-8.ensures
-    go name.NoSpaces = differs c.args.word.now c.as_slice-else-eq-9.result.now (codes "nospaces") c.if-eq-10.ensures c.as_slice-else-eq-9.ensures
-    go name.NoRoom = differs c.args.word.now c.as_slice-else-eq-10.result.now (codes "noroom") c.if-eq-11.ensures c.as_slice-else-eq-10.ensures
-    go name.Exists = differs c.args.word.now c.as_slice-else-eq-11.result.now (codes "exists") c.if-eq-12.ensures c.as_slice-else-eq-11.ensures
-    go name.Hole = differs c.args.word.now c.as_slice-else-eq-12.result.now (codes "hole") c.if-eq-13.ensures c.as_slice-else-eq-12.ensures
-    go name.Segv = differs c.args.word.now c.as_slice-else-eq-13.result.now (codes "segv") c.if-eq-14.ensures c.as_slice-else-eq-13.ensures
-    go name.Denied = differs c.args.word.now c.as_slice-else-eq-14.result.now (codes "denied") c.if-eq-15.ensures c.as_slice-else-eq-14.ensures
-    go name.Bus = differs c.args.word.now c.as_slice-else-eq-15.result.now (codes "bus") c.if-eq-16.ensures c.as_slice-else-eq-15.ensures
-    go name.NoTables = differs c.args.word.now c.as_slice-else-eq-16.result.now (codes "notables") c.if-eq-17.ensures c.as_slice-else-eq-16.ensures
-    go name.NoFrames = differs c.args.word.now c.as_slice-else-eq-17.result.now (codes "noframes") c.if-eq-18.ensures c.as_slice-else-eq-17.ensures
-    go name.NoSwap = differs c.args.word.now c.as_slice-else-eq-18.result.now (codes "noswap") c.if-eq-19.ensures c.as_slice-else-eq-18.ensures
+    go name.Ok = tried 0 refl
+    go name.At = tried 1 refl
+    go name.Bytes = tried 2 refl
+    go name.Space = tried 3 refl
+    go name.Moved = tried 4 refl
+    go name.Done = tried 5 refl
+    go name.Undone = tried 6 refl
+    go name.Einval = tried 7 refl
+    go name.NoSpace = tried 8 refl
+    go name.NoSpaces = tried 9 refl
+    go name.NoRoom = tried 10 refl
+    go name.Exists = tried 11 refl
+    go name.Hole = tried 12 refl
+    go name.Segv = tried 13 refl
+    go name.Denied = tried 14 refl
+    go name.Bus = tried 15 refl
+    go name.NoTables = tried 16 refl
+    go name.NoFrames = tried 17 refl
+    go name.NoSwap = tried 18 refl

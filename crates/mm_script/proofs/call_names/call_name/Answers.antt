@@ -1,31 +1,54 @@
--- A word that is the word of no name: each test said that it differs.
-use Rattle.std.proofs.Common.{◌≡◌, ◌≢◌, ℕ, false, List, codes, sym, ◌∙◌}
+-- The names before the place where the loop stands were tried, and each name stands at a place of the table.
+use Rattle.std.proofs.Common.{◌≡◌, ◌≢◌, ℕ, ◌+◌, ◌<◌, ◌≤◌, ltb, true, List, length, get_or, refl, sym, ap, ◌∙◌, subst, ⊎_elim, arith, false}
 use Rattle.std.specs.Str.{bytes_eq}
-use Rattle.std.proofs.lemmas.Bool.{false≢true}
+use Rattle.std.proofs.lemmas.Bool.{false≢true, ltb-true, cases_lt}
 use Rattle.std.proofs.lemmas.Slice.Eq.{bytes_eq-Decides}
 use Rattle.mm_script.specs.declared.call_names.CallName.{CallName}
 use Rattle.mm_script.specs.declared.call_names.CallName.TheVariants as name
+use Rattle.mm_script.specs.declared.call_names.TheConstants.{NAMES}
 use Rattle.mm_script.specs.CallNames.{name_word}
 use Rattle.mm_script.proofs.call_names.call_name.Goals as goal
 
 differs : (word tested other : List ℕ) → false ≡ bytes_eq word tested → tested ≡ other → word ≢ other
 differs word tested other apart same are = false≢true (apart ∙ (bytes_eq-Decides word tested).1 (are ∙ sym same))
 
-pub returns-else-eq-14-clause-none : goal.returns-else-eq-14-clause-none
-returns-else-eq-14-clause-none c = go
+abbrev named : List CallName → ℕ → List ℕ
+named names k = name_word (get_or names k name.Map)
+
+one_more : (word : List ℕ) (names : List CallName) (index : ℕ) → ((k : ℕ) → k < index → word ≢ named names k) → word ≢ named names index → (k : ℕ) → k < index + 1 → word ≢ named names k
+one_more word names index before here k below are =
+    ⊎_elim (λ (less : k < index). before k less are) (λ (past : index ≤ k). let same : k ≡ index = omega arith in here (are ∙ ap (λ i. named names i) same)) (cases_lt k index)
+
+pub loop-name-init : goal.loop-name-init
+loop-name-init c = λ k below are. omega (arith, below)
+
+pub loop-name-preserved : goal.loop-name-preserved
+loop-name-preserved c =
+    let index : ℕ = c.loop-name.name-index in
+    let is : c.word_of.result.now ≡ named NAMES index = cc (c.word_of.ensures, c.as_slice-name-items.ensures) in
+    one_more c.args.word.now NAMES index c.loop-name.invariant (differs c.args.word.now c.word_of.result.now (named NAMES index) c.if-eq.ensures is)
+
+pub returns-clause-none : goal.returns-clause-none
+returns-clause-none c = go
   where
+    all : length NAMES ≤ c.loop-name.name-index
+    all = subst (λ (names : List CallName). length names ≤ c.loop-name.name-index) c.as_slice-name-items.ensures c.loop-name-test.false
+
+    tried : (k : ℕ) → ltb k (length NAMES) ≡ true → c.args.word.now ≢ named NAMES k
+    tried k below = c.loop-name.invariant k (omega (arith, all, ltb-true k (length NAMES) below))
+
     go : (n : CallName) → c.args.word.now ≢ name_word n
-    go name.Map = differs c.args.word.now c.as_slice.result.now (codes "map") c.if-eq.ensures c.as_slice.ensures
-    go name.Unmap = differs c.args.word.now c.as_slice-else-eq.result.now (codes "unmap") c.if-eq-2.ensures c.as_slice-else-eq.ensures
-    go name.Protect = differs c.args.word.now c.as_slice-else-eq-2.result.now (codes "protect") c.if-eq-3.ensures c.as_slice-else-eq-2.ensures
-    go name.Load = differs c.args.word.now c.as_slice-else-eq-3.result.now (codes "load") c.if-eq-4.ensures c.as_slice-else-eq-3.ensures
-    go name.Store = differs c.args.word.now c.as_slice-else-eq-4.result.now (codes "store") c.if-eq-5.ensures c.as_slice-else-eq-4.ensures
-    go name.Fault = differs c.args.word.now c.as_slice-else-eq-5.result.now (codes "fault") c.if-eq-6.ensures c.as_slice-else-eq-5.ensures
-    go name.Spawn = differs c.args.word.now c.as_slice-else-eq-6.result.now (codes "spawn") c.if-eq-7.ensures c.as_slice-else-eq-6.ensures
-    go name.Fork = differs c.args.word.now c.as_slice-else-eq-7.result.now (codes "fork") c.if-eq-8.ensures c.as_slice-else-eq-7.ensures
-    go name.Exit = differs c.args.word.now c.as_slice-else-eq-8.result.now (codes "exit") c.if-eq-9.ensures c.as_slice-else-eq-8.ensures
-    go name.SwapOut = differs c.args.word.now c.as_slice-else-eq-9.result.now (codes "out") c.if-eq-10.ensures c.as_slice-else-eq-9.ensures
-    go name.SwapIn = differs c.args.word.now c.as_slice-else-eq-10.result.now (codes "in") c.if-eq-11.ensures c.as_slice-else-eq-10.ensures
-    go name.Txn = differs c.args.word.now c.as_slice-else-eq-11.result.now (codes "txn") c.if-eq-12.ensures c.as_slice-else-eq-11.ensures
-    go name.DontNeed = differs c.args.word.now c.as_slice-else-eq-12.result.now (codes "dontneed") c.if-eq-13.ensures c.as_slice-else-eq-12.ensures
-    go name.Remap = differs c.args.word.now c.as_slice-else-eq-13.result.now (codes "remap") c.if-eq-14.ensures c.as_slice-else-eq-13.ensures
+    go name.Map = tried 0 refl
+    go name.Unmap = tried 1 refl
+    go name.Protect = tried 2 refl
+    go name.Load = tried 3 refl
+    go name.Store = tried 4 refl
+    go name.Fault = tried 5 refl
+    go name.Spawn = tried 6 refl
+    go name.Fork = tried 7 refl
+    go name.Exit = tried 8 refl
+    go name.SwapOut = tried 9 refl
+    go name.SwapIn = tried 10 refl
+    go name.Txn = tried 11 refl
+    go name.DontNeed = tried 12 refl
+    go name.Remap = tried 13 refl
