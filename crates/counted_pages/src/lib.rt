@@ -130,6 +130,7 @@ impl CountedPages {
         requires room { count_of self.old.counts page.now.number < 64 }
         requires spare { IsNone spare → HasSpare self.old page.now.number }
         ensures second { result ≡ page.now }
+        ensures kept { HasSpare self.new page.now.number }
         ensures counted { self.new ≡ with_spare (with_count self.old page.now.number (count_of self.old.counts page.now.number + 1)) page.now.number }
     {
         let number = page.number;

@@ -115,6 +115,7 @@ impl Pool {
         requires room { count_of self.old.counts frame.now.number < 64 }
         requires spare { IsNone spare → HasSpare self.old frame.now.number }
         ensures second { result ≡ frame.now }
+        ensures kept { HasSpare self.new frame.now.number }
         ensures counted { self.new ≡ with_spare (with_count self.old frame.now.number (count_of self.old.counts frame.now.number + 1)) frame.now.number }
     {
         FrameRef {

@@ -99,6 +99,7 @@ impl Area {
         requires room { count_of self.old.counts slot.now.number < 64 }
         requires spare { IsNone spare → HasSpare self.old slot.now.number }
         ensures second { result ≡ slot.now }
+        ensures kept { HasSpare self.new slot.now.number }
         ensures counted { self.new ≡ with_spare (with_count self.old slot.now.number (count_of self.old.counts slot.now.number + 1)) slot.now.number }
     {
         SlotRef {
