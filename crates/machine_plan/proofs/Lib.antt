@@ -1,4 +1,4 @@
-mod Pages
+pub mod Pages
 pub mod Lawful
 pub mod Changes
 pub mod Wanting
@@ -8,10 +8,11 @@ pub mod Covering
 pub mod Asked
 pub mod Holding
 pub mod Following
-mod Near
+pub mod Near
 pub mod Local
 pub mod Leaving
 pub mod Giving
 pub mod Whole
 pub mod Beginning
 pub mod Telling
+pub mod Unblocked

@@ -6,6 +6,7 @@ pub mod Cover
 pub mod Uses
 pub mod Changes
 pub mod Wanting
+pub mod Moving
 pub mod Kits
 pub mod HeldRows
 pub mod Held

@@ -6,7 +6,7 @@ mod kit;
 mod laws;
 
 pub use asking::query;
-pub use kit::{Change, Kit, Want};
+pub use kit::{Change, Kit, Piece, Want};
 pub use laws::{
     a_book_has_a_state_that_steps_reach, a_book_has_the_levels_of_its_limits,
     a_call_changes_its_cover_alone, a_committed_book_may_follow, a_give_gives_all_rows,
