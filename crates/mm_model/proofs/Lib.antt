@@ -3,6 +3,7 @@ pub mod Sound
 pub mod Lacks
 pub mod Refusals
 pub mod Found
+pub mod Framed
 pub mod Needs
 pub mod Carried
 pub mod Full
@@ -22,3 +23,4 @@ pub mod RemapFull
 pub mod NewSpaces
 pub mod SpaceSteps
 pub mod Exits
+pub mod Beyond

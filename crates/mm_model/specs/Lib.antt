@@ -1,4 +1,5 @@
 pub mod Plain
+pub mod Pages
 pub mod Lacking
 pub mod Accesses
 pub mod Operations
@@ -9,3 +10,4 @@ pub mod NewSpaces
 pub mod Transactions
 pub mod Moves
 pub mod Steps
+pub mod Runs

@@ -8,12 +8,15 @@ mod lacking;
 mod mapping;
 mod operating;
 mod operations;
+mod pages;
 mod plain;
 mod remapping;
+mod runs;
 mod spaces;
 mod step;
 mod swapping;
 mod transactions;
 
 pub use plain::Plain;
+pub use runs::Run;
 pub use step::StepFault;

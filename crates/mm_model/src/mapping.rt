@@ -12,7 +12,7 @@ use crate::operating::pages_in;
 use crate::plain::Plain;
 use corten_base::{Backing, Perm, Range, Reply, SpaceId, TxnOp};
 use file_shelf::Shelf;
-use plain_counts::Pages;
+use plain_counts::{ARENA_PAGES, Pages};
 use space_cells::AddressSpace;
 use std::alloc::{AllocError, Global};
 use txn_plan::{is_mappable, pages};
@@ -40,6 +40,15 @@ fn mapped_page(cells: &AddressSpace, fresh: bool, first: u64, count: u64) -> Opt
         cells.next(first, first + count)
     } else {
         None
+    }
+}
+
+/// Whether a mapping's reply names another address, or that there is no gap.
+fn is_behind(reply: &Reply, first: u64) -> bool {
+    match reply {
+        Reply::At(at) => *at != first,
+        Reply::NoRoom => true,
+        _ => false,
     }
 }
 
@@ -78,6 +87,19 @@ impl Plain {
             let known = self.fronts.get(space, thread);
             let full = cells.full_pages(thread, known);
             self.fronts.set(space, thread, full);
+        }
+    }
+
+    /// Notes where the least gap of so many pages is, if it is not the first of the arena.
+    fn note_gap(&mut self, thread: u8, space: u8, count: u64, reply: &Reply)
+        requires thread { thread < 8 }
+        requires space { space < 64 }
+        ensures { self.new ≡ self.old }
+    {
+        let known = self.fronts.get(space, thread);
+        let first = (u64::from(thread) + 1) * ARENA_PAGES + u64::from(known);
+        if count > 0 && is_behind(reply, 4096 * first) {
+            self.spaces.note_gap(space, thread, known, count);
         }
     }
 
@@ -148,8 +170,11 @@ impl Plain {
         ensures ok { IfOk result (IsStepOf thread limbo self.old self.new (call_of mapping.now)) }
         ensures err { OnErr result (self.new ≡ self.old) }
     {
-        self.note_full_pages(thread, mapping.space.number());
-        self.map_at_gap(alloc, thread, mapping, limbo)
+        let space = mapping.space.number();
+        self.note_full_pages(thread, space);
+        let reply = self.map_at_gap(alloc, thread, mapping, limbo)?;
+        self.note_gap(thread, space, pages(mapping.len), &reply);
+        Ok(reply)
     }
 
     /// The pages of a mapping at an address, or the reply that refuses it. A fresh one needs a range without pages.

@@ -1,5 +1,5 @@
 //! One mapping operation in a space, with the page tables that it needs.
-ghost use Rattle.std.specs.Prelude.{◌≡◌, ◌+◌, ◌≤◌, not, None, IfOk, IfErr, IfSome, OnOk, OnErr};
+ghost use Rattle.std.specs.Prelude.{◌≡◌, ◌+◌, ◌≤◌, not, Some, None, IsTrue, IfOk, IfErr, IfSome, OnOk, OnErr};
 ghost use Rattle.std.specs.FinSet as set;
 ghost use Rattle.page_map.specs.State.{linked};
 ghost use Rattle.plain_counts.specs.Cut.{IsShort};
@@ -25,6 +25,16 @@ pub(crate) fn pages_in(range: Range) -> Pages
     Pages {
         first: range.first(),
         count: range.count(),
+    }
+}
+
+/// Whether pages are all those of a range.
+fn is_all(pages: Option<Pages>, range: Pages) -> bool
+    ensures { IsTrue result → pages ≡ Some range }
+{
+    match pages {
+        Some(pages) => pages == range,
+        None => false,
     }
 }
 
@@ -81,6 +91,9 @@ impl Plain {
         }
         let cells = spaces.get(space).unwrap();
         let changed = changed_pages(cells, op, range);
+        if is_all(changed, range) {
+            return Ok(cut);
+        }
         self.missing_in(alloc, space, changed)
     }
 

@@ -31,12 +31,11 @@ impl Plain {
         };
         let (first, count) = (range.first(), range.count());
         let free = way.free(&self.counts);
-        let need = way.pages(cells, &self.counts, first, count) as u32;
-        if free < need {
-            return too_few(way, free, need);
+        if let Some(need) = way.lacking(cells, &self.counts, first, count) {
+            return too_few(way, free, need as u32);
         }
         way.make(cells, &mut self.counts, first, count);
-        Reply::Moved(need)
+        Reply::Moved(free - way.free(&self.counts))
     }
 
     /// Moves the pages of a range that have frames of their own to swap slots.

@@ -5,8 +5,13 @@ pub mod Split
 pub mod Painted
 pub mod Vacant
 pub mod Made
+pub mod Single
+pub mod Crowded
+pub mod Cleared
+pub mod Extended
 pub mod Full
 pub mod Walks
 pub mod Least
 pub mod Behind
 pub mod Stretch
+pub mod Backward

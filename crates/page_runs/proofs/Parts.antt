@@ -33,7 +33,7 @@ no_mark (Some mark) i j there none some = not_some (sym none)
 
 module _ (spans : Spans) (runs : AreRuns spans) where
   -- the pages of a run
-  run_has : (first : ℕ) (span : Span) → span_at spans first ≡ Some span → (i : ℕ) → i < span.count → get (marks spans) (first + i) ≡ onward span.mark i
+  pub run_has : (first : ℕ) (span : Span) → span_at spans first ≡ Some span → (i : ℕ) → i < span.count → get (marks spans) (first + i) ≡ onward span.mark i
   run_has first span there i below = has spans runs (first + i) (onward span.mark i) (record { first = first; span = span; place = i; there = there; below = below; is_page = refl; carries = refl })
 
   module _ (page first : ℕ) (span : Span) (at : IsLastUpTo spans page first span) where

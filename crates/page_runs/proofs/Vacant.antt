@@ -7,7 +7,7 @@ use Rattle.std.proofs.lemmas.Bool.{cases_lt, cases_eq}
 use Rattle.page_runs.specs.declared.mark.Mark.{Mark}
 use Rattle.page_runs.specs.declared.spans.Span.{Span}
 use Rattle.page_runs.specs.Mark.{first_index, onward}
-use Rattle.page_runs.specs.Spans.{Spans, span_at, marks, IsRun, AreRuns, IsFree, IsTaken, IsTakenTo, IsLastUpTo, Sets}
+use Rattle.page_runs.specs.Spans.{Spans, span_at, marks, IsRun, AreRuns, IsEdge, IsFree, IsTaken, IsTakenTo, IsLastUpTo, Sets}
 use Rattle.page_runs.proofs.Views.{IsIn, has, has_nothing, is_in, told, same_some, not_some}
 
 -- where the run that has a page ends
@@ -82,6 +82,21 @@ module _ (m n : Spans) (page edge : ℕ) (gap : Span) (many : gap.count ≡ edge
 
   pub taken_too : (q : ℕ) → IsTaken m q → IsTaken n q
   taken_too q at = record { first = at.first; span = at.span; there = there at.first at.span at.there; low = at.low; high = at.high }
+
+  -- it starts where none goes on across, and ends before no edge
+  pub filled_start : IsEdge page n
+  filled_start q s is low = go (which q s is)
+    where
+      go : Which q s → q + s.count ≤ page
+      go (inl a) = absurd (omega (arith, a.0, low))
+      go (inr a) = free q s a.1 (omega (arith, low))
+
+  pub filled_edge : (end : ℕ) → edge ≤ end → IsEdge end m → IsEdge end n
+  filled_edge end far is q s at low = go (which q s at)
+    where
+      go : Which q s → q + s.count ≤ end
+      go (inl a) = omega (arith, a.0, gap_count s a.1, far, room)
+      go (inr a) = is q s a.1 low
 
   pub filled_to : IsTakenTo n page edge
   filled_to = record { some = room; taken = λ q low high. record { first = page; span = gap; there = sets.here; low = low; high = omega (arith, many, high, room) } }

@@ -2,3 +2,4 @@ pub mod Mark
 pub mod Spans
 pub mod Changes
 pub mod Runs
+pub mod Starts

@@ -4,13 +4,16 @@
 --     AreAlike, IsStretch      so many pages go on from a first one;  how many of a range do
 --     IsFullFrom      how many pages of a range have marks before the first that has none
 --     is_vacant      whether none has
-use Rattle.std.specs.Prelude.{◌≡◌, ◌≢◌, ℕ, ◌+◌, ◌<◌, ◌≤◌, Bool, is_some, is_none, IsSome, None, Some}
+--     HaveNoGap, AreCrowded      at no page of a range begins a gap of so many;  at none of those that are kept
+--     AreKept      what is kept: runs, and pages at which no gap begins
+use Rattle.std.specs.Prelude.{◌≡◌, ◌≢◌, ℕ, ◌+◌, ◌<◌, ◌≤◌, Bool, false, is_some, is_none, IsSome, None, Some}
 use Rattle.std.specs.Option.{option_map}
 use Rattle.std.specs.FinMap.{get}
 use Rattle.page_map.specs.Change.{least}
 use Rattle.page_runs.specs.declared.runs.Run.{Run}
 use Rattle.page_runs.specs.Mark.{goes_on}
-use Rattle.page_runs.specs.Spans.{Marks}
+use Rattle.page_runs.specs.declared.crowds.Crowd.{Crowd}
+use Rattle.page_runs.specs.Spans.{Spans, Marks, AreRuns, marks}
 
 abbrev pub HasNone : Marks → ℕ → ℕ → Type 0
 HasNone m first end = (page : ℕ) → first ≤ page → page < end → get m page ≡ None
@@ -41,3 +44,13 @@ pub record IsFullFrom (m : Marks) (first end count : ℕ) : Type 0 where
 -- whether no page of so many has a mark
 abbrev pub is_vacant : Marks → ℕ → ℕ → Bool
 is_vacant m first count = is_none (least first count (λ page. is_some (get m page)))
+
+abbrev pub HaveNoGap : Marks → ℕ → ℕ → ℕ → Type 0
+HaveNoGap m first end count = (start : ℕ) → first ≤ start → start < end → is_vacant m start count ≡ false
+
+abbrev pub AreCrowded : Marks → Crowd → Type 0
+AreCrowded m crowd = HaveNoGap m crowd.first crowd.end crowd.count
+
+pub record AreKept (spans : Spans) (crowd : Crowd) : Type 0 where
+  pub runs : AreRuns spans
+  pub crowded : AreCrowded (marks spans) crowd

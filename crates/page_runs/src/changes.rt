@@ -2,11 +2,13 @@
 ghost use Rattle.std.specs.Prelude.{◌≡◌, ℕ, ◌+◌, ◌<◌, OnOk, OnErr};
 ghost use Rattle.std.specs.List.{All};
 ghost use Rattle.page_runs.specs.Spans.{AreRuns, IsEdge, IsTaken, marks};
-ghost use Rattle.page_runs.specs.Changes.{IsChange, IsCut, IsFilled, after_changes};
+ghost use Rattle.page_runs.specs.Changes.{IsChange, IsCut, IsFilled, after_change, after_changes};
 
 use crate::change::{Change, Effect};
+use crate::clearing::{clear, clear_whole};
 use crate::edges::{split, tidy};
 use crate::filling::fill;
+use crate::laying::{lay, repaint, whole};
 use crate::painting::paint;
 use crate::spans::Spans;
 use std::alloc::AllocError;
@@ -110,7 +112,7 @@ fn tidy_all(spans: &mut Spans, changes: &[Change])
 }
 
 /// Makes the changes in their order, all or none.
-pub(crate) fn apply(spans: &mut Spans, changes: &[Change]) -> Result<(), AllocError>
+fn apply_all(spans: &mut Spans, changes: &[Change]) -> Result<(), AllocError>
     requires fits { All IsChange changes.now }
     requires runs { AreRuns spans.old }
     ensures runs { AreRuns spans.new }
@@ -127,5 +129,87 @@ pub(crate) fn apply(spans: &mut Spans, changes: &[Change]) -> Result<(), AllocEr
             tidy_all(spans, changes);
             Err(e)
         }
+    }
+}
+
+/// Makes one change of a range that is one run, or of another, or none.
+fn apply_split(spans: &mut Spans, change: Change) -> Result<(), AllocError>
+    requires fits { IsChange change }
+    requires runs { AreRuns spans.old }
+    ensures runs { AreRuns spans.new }
+    ensures ok { OnOk result (marks spans.new ≡ after_change (marks spans.old) change) }
+    ensures err { OnErr result (marks spans.new ≡ marks spans.old) }
+{
+    match whole(spans, change.first, change.count) {
+        Some(span) => {
+            repaint(spans, change, span);
+            Ok(())
+        }
+        None => apply_all(spans, &[change]),
+    }
+}
+
+/// Makes one change after splits at the edges of its range, which is often one run then, or none.
+fn apply_cut(spans: &mut Spans, change: Change) -> Result<(), AllocError>
+    requires fits { IsChange change }
+    requires runs { AreRuns spans.old }
+    ensures runs { AreRuns spans.new }
+    ensures ok { OnOk result (marks spans.new ≡ after_change (marks spans.old) change) }
+    ensures err { OnErr result (marks spans.new ≡ marks spans.old) }
+{
+    match cut(spans, change) {
+        Ok(()) => apply_split(spans, change),
+        Err(e) => {
+            tidy(spans, change.first, change.first + change.count);
+            Err(e)
+        }
+    }
+}
+
+/// Makes one change of a range that is not one run, or none.
+fn apply_to_parts(spans: &mut Spans, change: Change) -> Result<(), AllocError>
+    requires fits { IsChange change }
+    requires runs { AreRuns spans.old }
+    ensures runs { AreRuns spans.new }
+    ensures ok { OnOk result (marks spans.new ≡ after_change (marks spans.old) change) }
+    ensures err { OnErr result (marks spans.new ≡ marks spans.old) }
+{
+    match change.effect {
+        Effect::Map(mark) => lay(spans, change.first, change.count, mark),
+        Effect::Unmap => clear(spans, change.first, change.count),
+        Effect::Protect(_) => apply_cut(spans, change),
+    }
+}
+
+/// Makes one change, or none. Where its range is one run, no other run changes but for what goes on from it.
+fn apply_one(spans: &mut Spans, change: Change) -> Result<(), AllocError>
+    requires fits { IsChange change }
+    requires runs { AreRuns spans.old }
+    ensures runs { AreRuns spans.new }
+    ensures ok { OnOk result (marks spans.new ≡ after_change (marks spans.old) change) }
+    ensures err { OnErr result (marks spans.new ≡ marks spans.old) }
+{
+    let Some(span) = whole(spans, change.first, change.count) else {
+        return apply_to_parts(spans, change);
+    };
+    match change.effect {
+        Effect::Unmap => clear_whole(spans, change.first, change.count, span),
+        Effect::Map(_) => repaint(spans, change, span),
+        Effect::Protect(_) => repaint(spans, change, span),
+    }
+    Ok(())
+}
+
+/// Makes the changes in their order, all or none.
+pub(crate) fn apply(spans: &mut Spans, changes: &[Change]) -> Result<(), AllocError>
+    requires fits { All IsChange changes.now }
+    requires runs { AreRuns spans.old }
+    ensures runs { AreRuns spans.new }
+    ensures ok { OnOk result (marks spans.new ≡ after_changes (marks spans.old) changes.now) }
+    ensures err { OnErr result (marks spans.new ≡ marks spans.old) }
+{
+    match changes {
+        [change] => apply_one(spans, *change),
+        _ => apply_all(spans, changes),
     }
 }

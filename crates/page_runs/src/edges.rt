@@ -62,7 +62,7 @@ fn join(spans: &mut Spans, page: u64, upper: Span)
 }
 
 /// Takes a run without marks out, and joins any other with the one before it.
-fn settle(spans: &mut Spans, page: u64, span: Span)
+pub(crate) fn settle(spans: &mut Spans, page: u64, span: Span)
     requires there { span_at spans.old page ≡ Some span }
     requires runs { AreRuns spans.old }
     ensures runs { AreRuns spans.new }
@@ -86,7 +86,16 @@ pub(crate) fn tidy(spans: &mut Spans, first: u64, end: u64)
         settle(spans, at, span);
         next = at + 1;
     }
-    if let Some(span) = spans.get(&end).copied() {
-        settle(spans, end, span);
+    settle_at(spans, end);
+}
+
+/// Settles the run that starts at a page, if one does.
+pub(crate) fn settle_at(spans: &mut Spans, page: u64)
+    requires { AreRuns spans.old }
+    ensures runs { AreRuns spans.new }
+    ensures same { marks spans.new ≡ marks spans.old }
+{
+    if let Some(span) = spans.get(&page).copied() {
+        settle(spans, page, span);
     }
 }

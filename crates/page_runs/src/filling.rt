@@ -1,12 +1,12 @@
 //! Filling the pages of a range that are in no run with runs that have no marks. No page gets a mark by it.
 ghost use Rattle.std.specs.Prelude.{◌≡◌, ℕ, ◌+◌, ◌<◌, ◌≤◌, IfOk, IfSome, IfNone, OnOk};
-ghost use Rattle.page_runs.specs.Spans.{AreRuns, AreTaken, IsFree, IsGap, IsTaken, IsTakenTo, marks};
+ghost use Rattle.page_runs.specs.Spans.{AreRuns, AreTaken, IsEdge, IsFree, IsGap, IsTaken, IsTakenTo, marks};
 
 use crate::spans::{Span, Spans, add, at_or_before, first_in};
 use std::alloc::AllocError;
 
 /// Where the run that has a page ends.
-fn end_at(spans: &Spans, page: u64) -> Option<u64>
+pub(crate) fn end_at(spans: &Spans, page: u64) -> Option<u64>
     requires { AreRuns spans.now }
     ensures some { IfSome result (IsTakenTo spans.now page) }
     ensures none { IfNone result (IsFree spans.now page) }
@@ -33,7 +33,7 @@ fn next_start(spans: &Spans, page: u64, end: u64) -> u64
 }
 
 /// Fills the pages from a free one on up to the next run, or to the range's end.
-fn fill_gap(spans: &mut Spans, page: u64, end: u64) -> Result<u64, AllocError>
+pub(crate) fn fill_gap(spans: &mut Spans, page: u64, end: u64) -> Result<u64, AllocError>
     requires room { page < end }
     requires free { IsFree spans.old page }
     requires runs { AreRuns spans.old }
@@ -41,6 +41,8 @@ fn fill_gap(spans: &mut Spans, page: u64, end: u64) -> Result<u64, AllocError>
     ensures same { marks spans.new ≡ marks spans.old }
     ensures taken { (q : ℕ) → IsTaken spans.old q → IsTaken spans.new q }
     ensures filled { IfOk result (IsTakenTo spans.new page) }
+    ensures start { OnOk result (IsEdge page spans.new) }
+    ensures edge { OnOk result (IsEdge end spans.old → IsEdge end spans.new) }
 {
     let edge = next_start(spans, page, end);
     let gap = Span {

@@ -5,13 +5,17 @@
 
 mod change;
 mod changes;
+mod clearing;
+mod crowds;
 mod edges;
 mod filling;
 mod gaps;
+mod laying;
 mod mark;
 mod painting;
 mod runs;
 mod spans;
+mod starts;
 
 pub use change::{Change, Effect};
 pub use mark::Mark;

@@ -1,17 +1,19 @@
 //! What stands at each page of a space.
-ghost use Rattle.std.specs.Prelude.{◌≡◌, ◌+◌, ◌-◌, ◌^◌, ◌<◌, ◌≤◌, ◌↔◌, IsTrue, Some, None, IfOk, IfSome, IfNone, OnOk, OnErr, is_some, is_none};
+ghost use Rattle.std.specs.Prelude.{◌≡◌, ◌+◌, ◌-◌, ◌^◌, ◌<◌, ◌≤◌, ◌↔◌, IsTrue, Some, None, IfOk, IfSome, IfNone, OnOk, OnErr, IsSome, is_some, is_none};
 ghost use Rattle.std.specs.List.{All};
 ghost use Rattle.std.specs.FinMap as map;
 ghost use Rattle.page_map.specs.Change.{least};
 ghost use Rattle.page_runs.specs.Mark.{index_of};
 ghost use Rattle.page_runs.specs.Spans.{mapped, protected, unmapped};
 ghost use Rattle.page_runs.specs.Changes.{IsChange, after_changes};
+ghost use Rattle.page_runs.specs.Starts.{IsStart};
 ghost use Rattle.page_runs.specs.Runs.{AreAlike, IsFullFrom, IsPart, HasNone, IsStretch, is_vacant};
 
 use crate::change::{Change, Effect};
+use crate::crowds::Crowd;
 use crate::mark::Mark;
 use crate::spans::{Spans, first_marked, rest_at};
-use crate::{changes, gaps};
+use crate::{changes, gaps, starts};
 use corten_base::Perm;
 use std::alloc::{AllocError, Global};
 use std::collections::BTreeMap;
@@ -32,6 +34,7 @@ pub struct Run {
 #[derive(Drop)]
 pub struct PageRuns {
     spans: Spans,
+    crowd: Crowd,
 }
 
 impl Model for PageRuns {
@@ -45,11 +48,12 @@ impl Model for PageRuns {
 
     ghost coded = { map.code coded_ℕ mark.the_row.coded };
 
-    ghost use Rattle.page_runs.specs.Spans.{marks, AreRuns};
+    ghost use Rattle.page_runs.specs.Spans.{marks};
+    ghost use Rattle.page_runs.specs.Runs.{AreKept};
 
     ghost view = { λ a. marks a.spans };
 
-    ghost invariant = { λ a. AreRuns a.spans };
+    ghost invariant = { λ a. AreKept a.spans a.crowd };
 }
 
 impl PageRuns {
@@ -59,6 +63,7 @@ impl PageRuns {
     {
         Self {
             spans: BTreeMap::new(alloc),
+            crowd: Crowd::none(),
         }
     }
 
@@ -130,7 +135,18 @@ impl PageRuns {
         requires some { 0 < count }
         ensures { result ≡ least first (end + 1 - (first + count)) (λ start. is_vacant self.now start count) }
     {
-        gaps::gap(&self.spans, first, end, count)
+        let start = self.crowd.start(first, count).min(end);
+        gaps::gap(&self.spans, start, end, count)
+    }
+
+    /// Notes where the first gap of so many pages of a range begins, so that no search goes over the pages before it again.
+    pub fn note_gap(&mut self, first: u64, end: u64, count: u64)
+        requires range { first ≤ end }
+        requires some { 0 < count }
+        ensures { self.new ≡ self.old }
+    {
+        let gap = self.gap(first, end, count);
+        self.crowd = Crowd::before(first, end, count, gap);
     }
 
     /// How many pages of a range go on from its first one: without marks after one without, whatever runs they are in.
@@ -152,6 +168,16 @@ impl PageRuns {
             count += next.count;
         }
         count
+    }
+
+    /// The least page from `low` on from which on the pages go on from one another up to a page, which has a mark,
+    /// whatever runs they are in.
+    pub fn start(&self, low: u64, page: u64) -> u64
+        requires range { low ≤ page }
+        requires some { IsSome (map.get self.now page) }
+        ensures { IsStart self.now low page result }
+    {
+        starts::start(&self.spans, low, page)
     }
 
     /// How many pages of a range from its first one on have marks, up to the first that has none.
@@ -179,6 +205,7 @@ impl PageRuns {
         ensures ok { OnOk result (self.new ≡ after_changes self.old changes.now) }
         ensures err { OnErr result (self.new ≡ self.old) }
     {
+        self.crowd = self.crowd.after(changes);
         changes::apply(&mut self.spans, changes)
     }
 
@@ -229,6 +256,7 @@ impl PageRuns {
     {
         Ok(PageRuns {
             spans: self.spans.clone()?,
+            crowd: self.crowd,
         })
     }
 }

@@ -10,7 +10,7 @@ use Rattle.std.specs.declared.cmp.Ordering.{Ordering}
 use Rattle.std.specs.declared.cmp.Ordering.TheVariants.{Less, Equal, Greater}
 use Rattle.std.specs.Cmp.{Equal-is, eq_by_cmp_equiv, nat_cmp_is}
 use Rattle.std.specs.FinSet as set
-use Rattle.std.specs.FinSet.{same_set, contains-empty, contains-insert, contains-union, contains-difference, contains-from_list}
+use Rattle.std.specs.FinSet.{same_set, contains-empty, contains-insert, contains-union, contains-difference, contains-from_list, empty_of_len}
 use Rattle.std.proofs.Math.Nat.{mul-le-mul_right, add-mul, one-mul}
 use Rattle.std.proofs.lemmas.Bool.{and_parts, and_from, or_left, or_right, or_cases, eq-eqb, eqb-true, le-leb, not-true, cases_lt, cases_eq, cases_order, ne_eqb}
 use Rattle.std.proofs.lemmas.List.Elements.{filter-append}
@@ -307,3 +307,7 @@ module _ {A : Type 0} (cut : A → List Place) (t : Tables) where
   pub first_noted : (n : Tables) (all : List A) → n ≡ set.union set.empty (missing (flat_map cut all) t) → n ≡ missing (flat_map cut all) t
   first_noted n all e = e ∙ same_set place_total place_exact _ _ (λ q.
       contains-union place_total set.empty (missing (flat_map cut all) t) q ∙ ap (λ b. b || set.contains (missing (flat_map cut all) t) q) (contains-empty place_cmp q))
+
+-- where none is found
+pub none_listed : (found all : Tables) (items : List Place) → found ≡ all → set.len found ≡ 0 → items ≡ [] → Lists all items
+none_listed found all items same none empty = subst (λ s. Lists s items) same (subst (Lists found) (sym empty) (record { same = sym (empty_of_len found none); once = sym none }))

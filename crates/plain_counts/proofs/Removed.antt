@@ -5,10 +5,11 @@ use mathlib.Core.Logic.{inl, inr}
 use Rattle.std.specs.Prelude.{◌&&◌, nat_eq, nat_lt, nat_le, min, max, IfSome}
 use Rattle.std.specs.Int.{div_ceil}
 use Rattle.std.specs.List.{slice_get}
-use Rattle.std.specs.Ordering.{is_eq, eq_by_cmp}
+use Rattle.std.specs.Ordering.{is_eq, is_gt, is_lt, eq_by_cmp}
 use Rattle.std.specs.declared.cmp.Ordering.{Ordering}
 use Rattle.std.specs.declared.cmp.Ordering.TheVariants.{Less, Equal, Greater}
-use Rattle.std.specs.declared.ops.Bound.TheVariants.{Included, Excluded}
+use Rattle.std.specs.declared.ops.Bound.TheVariants.{Included, Excluded, Unbounded}
+use Rattle.std.specs.BTreeMap.Range.{IsInRange}
 use Rattle.std.specs.BTreeSet.{BTreeSet, IsKeyRangeOf, IsKeyInRange}
 use Rattle.std.specs.BTreeSet as tree
 use Rattle.std.specs.FinSet as set
@@ -95,13 +96,38 @@ module _ (s : FinSet place_cmp) where
 -- ---- the first of a range
 
 module _ (s : BTreeSet Place) (low high : Place) where
-  pub first_is : (p : Place) (r t : List Place) → IsKeyRangeOf place_cmp (Included low) (Excluded high) s r → r ≡ p ∷ t → (tree.contains place_cmp s p ≡ true) × (is_between low high p ≡ true)
-  first_is p r t range step =
-      let entry : IsKeyInRange place_cmp (Included low) (Excluded high) s p = subst (λ l. IfSome (slice_get l 0) (IsKeyInRange place_cmp (Included low) (Excluded high) s)) step range.1 in
-      (entry.1, range_contains-from_IsInRange place_total (Included low) (Excluded high) p entry.0)
+  lesser : (o : Ordering) → is_lt o ≡ true → o ≡ Less
+  lesser Less e = refl
+  lesser Equal e = absurd (true≢false (sym e))
+  lesser Greater e = absurd (true≢false (sym e))
 
-  pub none_is : (r : List Place) → IsKeyRangeOf place_cmp (Included low) (Excluded high) s r → r ≡ [] → (p : Place) → is_between low high p ≡ true → tree.contains place_cmp s p ≡ false
-  none_is r range none p between = range.5 none p (IsInRange-from_range_contains place_total (Included low) (Excluded high) p between)
+  pub first_is : (p : Place) (r t : List Place) → IsKeyRangeOf place_cmp (Included low) Unbounded s r → r ≡ p ∷ t → is_lt (place_cmp p high) ≡ true →
+      (tree.contains place_cmp s p ≡ true) × (is_between low high p ≡ true)
+  first_is p r t range step less =
+      let entry : IsKeyInRange place_cmp (Included low) Unbounded s p = subst (λ l. IfSome (slice_get l 0) (IsKeyInRange place_cmp (Included low) Unbounded s)) step range.1 in
+      (entry.1, range_contains-from_IsInRange place_total (Included low) (Excluded high) p (entry.0.0, lesser (place_cmp p high) less))
+
+  pub none_is : (r : List Place) → IsKeyRangeOf place_cmp (Included low) Unbounded s r → r ≡ [] → (p : Place) → is_between low high p ≡ true → tree.contains place_cmp s p ≡ false
+  none_is r range none p between = range.5 none p ((IsInRange-from_range_contains place_total (Included low) (Excluded high) p between).0, tt)
+
+  -- the first from the one place on is not before the other
+  pub none_before : (f : Place) (r t : List Place) → IsKeyRangeOf place_cmp (Included low) Unbounded s r → r ≡ f ∷ t → is_lt (place_cmp f high) ≡ false →
+      (p : Place) → is_between low high p ≡ true → tree.contains place_cmp s p ≡ false
+  none_before f r t range step far p between = go (tree.contains place_cmp s p) refl
+    where
+      here : IsInRange place_cmp (Included low) (Excluded high) p
+      here = IsInRange-from_range_contains place_total (Included low) (Excluded high) p between
+
+      before : (o : Ordering) → place_cmp f p ≡ o → is_gt o ≡ false → place_cmp f high ≡ Less
+      before Less e h = place_total.trans f p high e here.1
+      before Equal e h = place_total.congr f p high e ∙ here.1
+      before Greater e h = absurd (true≢false h)
+
+      go : (b : Bool) → tree.contains place_cmp s p ≡ b → b ≡ false
+      go false e = refl
+      go true e =
+          let upto : is_gt (place_cmp f p) ≡ false = subst (λ l. IfSome (slice_get l 0) (λ k. is_gt (place_cmp k p) ≡ false)) step (range.2 p (here.0, tt) e) in
+          absurd (true≢false (sym (ap is_lt (before (place_cmp f p) refl upto)) ∙ far))
 
 -- ---- the spans that lie in a range
 

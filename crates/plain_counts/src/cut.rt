@@ -131,6 +131,9 @@ impl Tables {
         for pages in ranges {
             self.note_range(levels, space, *pages, &mut found)?;
         }
+        if found.len() == 0 {
+            return Ok(Vec::new(alloc));
+        }
         found.list(alloc)
     }
 }

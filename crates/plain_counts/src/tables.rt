@@ -167,9 +167,14 @@ impl Tables {
         if low == high {
             return None;
         }
-        match self.places.range(low..high).next() {
-            Some(place) => Some(*place),
-            None => None,
+        // Where a range has no end, none is looked up.
+        let Some(place) = self.places.range(low..).next() else {
+            return None;
+        };
+        if place.cmp(&high).is_lt() {
+            Some(*place)
+        } else {
+            None
         }
     }
 

@@ -1,11 +1,11 @@
 -- The keys of a range from the front, page by page.
-use Rattle.std.proofs.Common.{◌≡◌, ℕ, zero, suc, ◌+◌, ◌-◌, ◌<◌, ◌≤◌, Bool, true, false, cond, List, [], ◌∷◌, ◌++◌, append_assoc, refl, sym, ap, subst, ◌∙◌, arith}
+use Rattle.std.proofs.Common.{◌≡◌, ℕ, zero, suc, ◌+◌, ◌-◌, ◌<◌, ◌≤◌, Bool, true, false, cond, List, [], ◌∷◌, ◌++◌, append_assoc, length, refl, sym, ap, subst, ◌∙◌, arith}
 use Rattle.std.specs.Prelude.{Option, Some, None, IsSome, IfSome, is_some}
 use Rattle.std.specs.Ordering.{nat_cmp}
 use Rattle.std.specs.Cmp.{unsigned_tied}
 use Rattle.std.specs.List.{zip}
 use Rattle.std.proofs.lemmas.Bool.{ne_eqb}
-use Rattle.std.proofs.lemmas.List.{append-nil}
+use Rattle.std.proofs.lemmas.List.{append-nil, length-append}
 use Rattle.std.specs.FinMap.{FinMap, get, find}
 use Rattle.page_map.specs.Change.{keys_in, least}
 use Rattle.page_map.proofs.Least.{least_passes}
@@ -14,6 +14,20 @@ use Rattle.plain_spaces.proofs.Nexts.{none_before, none_at_all}
 use Rattle.plain_spaces.proofs.Plans.{no_keys}
 
 module _ {X : Type 0} (p : X → Bool) (m : FinMap nat_cmp X) where
+  one_chosen : (k : ℕ) (o : Option X) → length (chosen p k o) ≤ 1
+  unfolding chosen
+  one_chosen k None = omega arith
+  one_chosen k (Some x) = at_most (p x)
+    where
+      at_most : (b : Bool) → length (cond b (k ∷ []) []) ≤ 1
+      at_most true = omega arith
+      at_most false = omega arith
+
+  -- no more than the range has numbers
+  pub keys_few : (low n : ℕ) → length (keys_in m low n p) ≤ n
+  keys_few low zero = omega (arith, ap length (no_keys p m low))
+  keys_few low (suc n) = omega (arith, ap length (keys_in_more p m low n), length-append (keys_in m low n p) (chosen p (low + n) (get m (low + n))), keys_few low n, one_chosen (low + n) (get m (low + n)))
+
   -- the first key of a range
   pub keys_front : (low n : ℕ) → keys_in m low (suc n) p ≡ chosen p low (get m low) ++ keys_in m (low + 1) n p
   keys_front low zero =

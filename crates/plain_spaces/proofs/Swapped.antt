@@ -66,23 +66,21 @@ module _ (to : ℕ → Cell → Cell) (number_of : Cell → Option ℕ) (passes 
           ap (to_do to passes cells page end) m.takes.least
           ∙ to_do_moves to passes passes' cells cells' page end m.number s.cell (unused_of taken') high s.here e (moved_cells m) tests
 
-  -- and there are enough numbers for it
-  pub still_enough : length (keys_in cells page (end - page) passes) ≤ length (unused_of taken) → length (keys_in cells' (page + 1) (end - (page + 1)) passes') ≤ length (unused_of taken')
+  -- as many numbers are unused less as pages are left less that move
+  pub still_balanced : length (unused_of taken') + length (keys_in cells page (end - page) passes) ≡ length (unused_of taken) + length (keys_in cells' (page + 1) (end - (page + 1)) passes')
   unfolding rest
-  still_enough h = go (passes s.cell) refl s.settles
+  still_balanced = go (passes s.cell) refl s.settles
     where
       keys : (b : Bool) → passes s.cell ≡ b → keys_in cells page (end - page) passes ≡ cond b (page ∷ rest (page + 1) cells passes) (rest (page + 1) cells passes)
       keys b e = keys_here passes cells page end s.cell high s.here ∙ ap (λ b. cond b (page ∷ rest (page + 1) cells passes) (rest (page + 1) cells passes)) e
 
-      less : (a b : List ℕ) (n : ℕ) (c : List ℕ) → length a ≤ length b → a ≡ page ∷ c → (d : List ℕ) → b ≡ n ∷ d → length c ≤ length d
-      less a b n c h e d f = omega (arith, h, ap length e, ap length f)
-
-      go : (b : Bool) → passes s.cell ≡ b → Settles to number_of b s.cell s.after taken taken' gone gone' → length (keys_in cells' (page + 1) (end - (page + 1)) passes') ≤ length (unused_of taken')
-      go false e stays = omega (arith, h, ap length (keys false e), ap length (other_tests cells' (same_cells stays)), ap (λ t. length (unused_of t)) stays.same_taken)
+      go : (b : Bool) → passes s.cell ≡ b → Settles to number_of b s.cell s.after taken taken' gone gone' →
+          length (unused_of taken') + length (keys_in cells page (end - page) passes) ≡ length (unused_of taken) + length (keys_in cells' (page + 1) (end - (page + 1)) passes')
+      go false e stays = omega (arith, ap length (keys false e), ap length (other_tests cells' (same_cells stays)), ap (λ t. length (unused_of t)) stays.same_taken)
       go true e m =
           let same : rest (page + 1) cells' passes' ≡ rest (page + 1) cells passes =
           keys_alike passes passes' cells cells' (page + 1) (end - (page + 1)) (λ k a b. ap (λ n. get n k) (moved_cells m) ∙ elsewhere m.number k a) (λ k x a b at. tests k x (omega (arith, a)) at) in
-          omega (arith, less _ _ m.number _ h (keys true e) _ m.takes.least, ap length same)
+          omega (arith, ap length (keys true e), ap length same, ap length m.takes.least)
         where
           elsewhere : (number k : ℕ) → page + 1 ≤ k → get (change cells page 1 (λ _. option_map (to number))) k ≡ get cells k
           elsewhere number k a = get-change cells page 1 (λ _. option_map (to number)) k ∙ at (within page 1 k) refl
@@ -90,6 +88,10 @@ module _ (to : ℕ → Cell → Cell) (number_of : Cell → Option ℕ) (passes 
               at : (b : Bool) → within page 1 k ≡ b → cond b (option_map (to number) (get cells k)) (get cells k) ≡ get cells k
               at false e = refl
               at true e = absurd (omega (arith, a, (inside page 1 k e).1))
+
+  -- so there are enough numbers for it
+  pub still_enough : length (keys_in cells page (end - page) passes) ≤ length (unused_of taken) → length (keys_in cells' (page + 1) (end - (page + 1)) passes') ≤ length (unused_of taken')
+  still_enough h = omega (arith, h, still_balanced)
 
 -- where a page moves, a number is unused
 pub some_left : (passes : Cell → Bool) (cells : AddressSpace) (page end : ℕ) (cell : Cell) (numbers : List ℕ) → page < end → get cells page ≡ Some cell →

@@ -1,9 +1,10 @@
 //! The spaces that are present, by number.
-ghost use Rattle.std.specs.Prelude.{◌≡◌, ℕ, ◌<◌, not, OnOk, OnErr};
+ghost use Rattle.std.specs.Prelude.{◌≡◌, ℕ, ◌<◌, not, IfSome, OnOk, OnErr};
 ghost use Rattle.std.specs.Option.{option_copied, option_copied_mut};
 ghost use Rattle.std.specs.Borrow.{sem};
 ghost use Rattle.std.specs.FinMap as map;
 ghost use Rattle.page_map.specs.Change.{least};
+ghost use Rattle.plain_counts.specs.Fronts.{IsFull};
 ghost use Rattle.plain_spaces.specs.Lending.{LendsSpace};
 
 use space_cells::AddressSpace;
@@ -55,6 +56,19 @@ impl Spaces {
         ensures value { option_copied_mut result ≡ map.get self.old space }
     {
         self.spaces.get_mut(&space)
+    }
+
+    /// Notes where the least gap of so many pages of a thread's arena is in a space, so that no search goes over the pages
+    /// before it again. `known` pages from the beginning of the arena on are known to have cells.
+    pub fn note_gap(&mut self, space: u8, thread: u8, known: u32, count: u64)
+        requires thread { thread < 8 }
+        requires known { IfSome (map.get self.old space) (λ cells. IsFull cells thread known) }
+        requires some { 0 < count }
+        ensures { self.new ≡ self.old }
+    {
+        if let Some(cells) = self.get_mut(space) {
+            cells.note_gap(thread, known, count);
+        }
     }
 
     /// Puts these cells at a space.

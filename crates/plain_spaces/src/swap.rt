@@ -1,5 +1,5 @@
 //! Pages that move to swap slots, and back to frames.
-ghost use Rattle.std.specs.Prelude.{◌≡◌, ◌+◌, ◌<◌, ◌^◌, cond, length, Some};
+ghost use Rattle.std.specs.Prelude.{◌≡◌, ◌+◌, ◌<◌, ◌^◌, cond, length, Some, IfSome, IfNone};
 ghost use Rattle.plain_counts.specs.Counts.{AreCounted, Follow};
 ghost use Rattle.plain_counts.specs.Owners.{unused_of};
 ghost use Rattle.space_cells.specs.Cells.{number_at};
@@ -77,6 +77,30 @@ impl Move {
         pages
     }
 
+    /// How many pages of a range move, if these are more than the numbers that are unused. Where the range has no more pages
+    /// than that, none is looked at.
+    pub fn lacking(
+        self,
+        cells: &AddressSpace,
+        counts: &Counts,
+        first: u64,
+        count: u64,
+    ) -> Option<u64>
+        requires fits { first + count < 2 ^ 64 }
+        requires counted { AreCounted counts.now cells.now }
+        ensures some { IfSome result (λ need.
+            (need ≡ length (moving_in self counts.now cells.now first count))
+            × (length (unused_of (taken self counts.now)) < need)) }
+        ensures none { IfNone result (AreFree self counts.now cells.now first count) }
+    {
+        let free = u64::from(self.free(counts));
+        if count <= free {
+            return None;
+        }
+        let need = self.pages(cells, counts, first, count);
+        if free < need { Some(need) } else { None }
+    }
+
     /// Moves a page, if it is one that moves.
     fn move_page(self, cells: &mut AddressSpace, counts: &mut Counts, page: u64, number: Number)
         requires here { number_at cells.old page ≡ Some number }
@@ -98,6 +122,9 @@ impl Move {
         requires counted { AreCounted counts.old cells.old }
         ensures cells { cells.new ≡ swapped self counts.old first count cells.old }
         ensures counts { Follow counts.old counts.new cells.old cells.new }
+        ensures taken { length (unused_of (taken self counts.new))
+            + length (moving_in self counts.old cells.old first count)
+            ≡ length (unused_of (taken self counts.old)) }
     {
         let end = first + count;
         let mut next = first;

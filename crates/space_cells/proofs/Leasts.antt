@@ -21,7 +21,7 @@ use Rattle.space_cells.specs.Held.{HeldPages, held_at, IsFirstHeld}
 use Rattle.space_cells.specs.Cells.{HaveMarks, cells_of, numbered_page}
 use Rattle.space_cells.proofs.Seen.{number_seen, same_none, same_some}
 
-none_from : {A : Type 0} (o : Option A) → is_some o ≡ false → o ≡ None
+pub none_from : {A : Type 0} (o : Option A) → is_some o ≡ false → o ≡ None
 none_from None h = refl
 none_from (Some x) h = absurd (true≢false h)
 
@@ -34,7 +34,7 @@ no_hole None h = refl
 no_hole (Some x) h = absurd (true≢false (sym h))
 
 -- no number of the range passes
-none_passes : (passes : ℕ → Bool) (first count : ℕ) → least first count passes ≡ None → (q : ℕ) → first ≤ q → q < first + count → passes q ≡ false
+pub none_passes : (passes : ℕ → Bool) (first count : ℕ) → least first count passes ≡ None → (q : ℕ) → first ≤ q → q < first + count → passes q ≡ false
 none_passes passes first count e q a b = go (passes q) refl (unanswered (λ n. cond (passes n) (Some n) None) first count e q a b)
   where
     not : ◌≡◌ {A = Option ℕ} (Some q) None → ⊥

@@ -6,3 +6,4 @@ pub mod Released
 pub mod Moved
 pub mod Copying
 pub mod Stretching
+pub mod LongestRuns

@@ -28,12 +28,12 @@ use Rattle.space_cells.specs.Cells.{HaveMarks, cell_of, cells_of}
 use Rattle.space_cells.proofs.Seen.{backing_of_cell, get_cells, over, perm_of_cell}
 use Rattle.space_cells.proofs.Moved.{onward_cell, some_none}
 
-plain : (o : Option Mark) → has_no_number (over None o) ≡ true
+pub plain : (o : Option Mark) → has_no_number (over None o) ≡ true
 plain None = refl
 plain (Some mark) = backed_unnumbered mark.backing mark.perm 0
 
 -- the cells of pages that are not held tell their marks
-same_marks : (o p : Option Mark) → over None o ≡ over None p → o ≡ p
+pub same_marks : (o p : Option Mark) → over None o ≡ over None p → o ≡ p
 same_marks None None e = refl
 same_marks None (Some m) e = absurd (none e)
   where
@@ -52,7 +52,7 @@ same_marks (Some m) (Some n) e = ap Some (λ i. record {
     one h = cc
 
 -- a page with a frame or a slot goes on from none
-no_start : (o : Option Cell) (mark : Mark) (held : HeldPage) → continues o 1 (Some (cell_of mark (Some held))) ≡ false
+pub no_start : (o : Option Cell) (mark : Mark) (held : HeldPage) → continues o 1 (Some (cell_of mark (Some held))) ≡ false
 no_start o mark held = go o held.number
   where
     go : (o : Option Cell) (number : Number) → continues o 1 (Some (cell_of mark (Some (record { number = number; bytes = held.bytes })))) ≡ false
@@ -68,7 +68,7 @@ no_start o mark held = go o held.number
     go (Some (Swapped perm origin slot bytes)) (Slot other) = refl
 
 -- and none goes on from it
-no_end : (mark : Mark) (held : HeldPage) (later : Option Cell) → continues (Some (cell_of mark (Some held))) 1 later ≡ false
+pub no_end : (mark : Mark) (held : HeldPage) (later : Option Cell) → continues (Some (cell_of mark (Some held))) 1 later ≡ false
 no_end mark held later = go held.number later
   where
     go : (number : Number) (later : Option Cell) → continues (Some (cell_of mark (Some (record { number = number; bytes = held.bytes })))) 1 later ≡ false

@@ -3,3 +3,4 @@ pub mod Held
 pub mod Views
 pub mod Changes
 pub mod Moving
+pub mod Longest

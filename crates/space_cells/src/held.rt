@@ -69,6 +69,9 @@ pub(crate) fn first_in(pages: &HeldPages, first: u64, end: u64) -> Option<(u64, 
     ensures some { IfSome result (λ e. IsFirstHeld pages.now first end e.0 e.1) }
     ensures none { IfNone result ((q : ℕ) → first ≤ q → q < end → held_at pages.now q ≡ None) }
 {
+    if pages.is_empty() {
+        return None;
+    }
     // Where a range has no end, none is looked up.
     let Some((page, held)) = pages.range(first..).next() else {
         return None;

@@ -5,6 +5,7 @@
 
 mod changes;
 mod held;
+mod longest;
 mod moving;
 mod pages;
 mod ranges;

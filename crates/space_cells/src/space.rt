@@ -178,4 +178,16 @@ impl AddressSpace {
         self.marks
             .gap(first + u64::from(known), first + ARENA_PAGES, count)
     }
+
+    /// Notes where the least such gap is, so that no search goes over the pages before it again.
+    pub fn note_gap(&mut self, thread: u8, known: u32, count: u64)
+        requires thread { thread < 8 }
+        requires known { IsFull self.old thread known }
+        requires some { 0 < count }
+        ensures { self.new ≡ self.old }
+    {
+        let first = (u64::from(thread) + 1) * ARENA_PAGES;
+        self.marks
+            .note_gap(first + u64::from(known), first + ARENA_PAGES, count);
+    }
 }

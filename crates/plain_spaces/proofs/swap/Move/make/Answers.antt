@@ -5,9 +5,9 @@ use Rattle.plain_counts.specs.Owners.{unused_of}
 use Rattle.plain_spaces.specs.Swapping.{loses_of, passes, taken, to}
 use Rattle.plain_spaces.proofs.Followed.{all_followed, all_follow_on, all_still_counted}
 use Rattle.plain_spaces.proofs.Held.{IsNextHeld, is_next_held, no_next_held, quiet_at}
-use Rattle.plain_spaces.proofs.Keys.{keys_past}
+use Rattle.plain_spaces.proofs.Keys.{keys_gone, keys_past}
 use Rattle.plain_spaces.proofs.Swaps.{all_to_do, to_do_next, to_do_none}
-use Rattle.plain_spaces.proofs.Swapped.{still_to_do, still_enough, number_left, alike, moves_follow}
+use Rattle.plain_spaces.proofs.Swapped.{still_to_do, still_balanced, still_enough, number_left, alike, moves_follow}
 use Rattle.plain_spaces.proofs.swap.Move.make.Goals as goal
 use Rattle.plain_spaces.proofs.swap.Move.make.Goals.{In-Some}
 
@@ -36,6 +36,7 @@ loop-page-init c =
       high = omega arith;
       cells = refl;
       enough = subst (λ n. length (keys_in c.args.cells.now c.args.first n (passes c.args.self c.args.counts.now)) ≤ length (unused_of (taken c.args.self c.args.counts.now))) (sym all) c.requires.enough;
+      balance = refl;
       follow = all_followed c.args.counts.now c.args.cells.now;
     }
 
@@ -73,6 +74,13 @@ loop-page-preserved c =
           (λ q a b. quiet_at way c.loop-page.counts c.loop-page.cells q (next.before q a b)))
           ∙ was.cells;
       enough = still_enough (to way) (loses_of way) (passes way c.loop-page.counts) (passes way c.move_page.new.counts) c.in-Some.page end _ _ _ _ _ _ s next.high tests (enough here);
+      balance = omega (
+        arith,
+        was.balance,
+        still_balanced (to way) (loses_of way) (passes way c.loop-page.counts) (passes way c.move_page.new.counts) c.in-Some.page end _ _ _ _ _ _ s next.high tests,
+        ap length (keys_past (passes way c.loop-page.counts) c.loop-page.cells c.loop-page.next c.in-Some.page end next.low (omega (arith, next.high))
+            (λ q a b. quiet_at way c.loop-page.counts c.loop-page.cells q (next.before q a b))),
+      );
       follow = all_follow_on _ _ _ _ _ _ was.follow (moves_follow way c.in-Some.page c.loop-page.cells c.move_page.new.cells c.loop-page.counts c.move_page.new.counts s);
     }
 
@@ -85,3 +93,13 @@ returns-clause-cells c =
     (λ q a b. quiet_at way c.loop-page.counts c.loop-page.cells q (no_next_held c.loop-page.cells c.loop-page.next end c.in_default.ensures q a b)))
     ∙ was.cells
     ∙ all_to_do (to way) (passes way c.args.counts.now) c.args.cells.now c.args.first c.args.count (unused_of (taken way c.args.counts.now))
+
+pub returns-clause-taken : goal.returns-clause-taken
+returns-clause-taken c =
+    let was = c.loop-page.invariant in
+    let end = c.args.first + c.args.count in
+    let way = c.args.self in
+    let all : end - c.args.first ≡ c.args.count = omega arith in
+    let none = ap length (keys_gone (passes way c.loop-page.counts) c.loop-page.cells c.loop-page.next end was.high
+    (λ q a b. quiet_at way c.loop-page.counts c.loop-page.cells q (no_next_held c.loop-page.cells c.loop-page.next end c.in_default.ensures q a b))) in
+    omega (arith, was.balance, none, ap (λ n. length (keys_in c.args.cells.now c.args.first n (passes way c.args.counts.now))) all)
