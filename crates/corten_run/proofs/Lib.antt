@@ -4,3 +4,4 @@ pub mod Told
 pub mod Single
 pub mod Shown
 pub mod SoloLegal
+pub mod VictimPages

@@ -1,5 +1,5 @@
 -- What is known of the bytes that a source told.
-use Rattle.std.proofs.Common.{◌≡◌, ◌≢◌, ℕ, ◌≤◌, List, [], ◌++◌, Option, None, Some, IfSome, ◌∙◌, append-nil, length, refl, sym, ap, subst, inl, inr, arith}
+use Rattle.std.proofs.Common.{◌≡◌, ◌≢◌, ℕ, ◌≤◌, List, [], ◌∷◌, ◌++◌, Option, None, Some, IfSome, ◌∙◌, append-nil, length, refl, sym, ap, subst, inl, inr, arith}
 use Rattle.std.specs.Prelude.{◌⊎◌, codes}
 use Rattle.std.specs.Option.{unwrap_or}
 use Rattle.std.specs.Io.KnownBytes.{IsAtEnd}
@@ -12,19 +12,21 @@ use Rattle.mm_script.specs.ScriptText.{IsScriptText}
 use Rattle.history_lines.specs.declared.history.History.{History}
 use Rattle.history_lines.specs.declared.verdict.Verdict.{Verdict}
 use Rattle.history_lines.specs.declared.verdict.Verdict.TheVariants as verdict
-use Rattle.history_lines.specs.HistoryText.{IsHistoryText}
+use Rattle.history_lines.specs.HistoryText.{HasText, IsHistoryText}
 use Rattle.history_lines.specs.Checking.{IsVerdict}
 use Rattle.history_lines.proofs.OneHistory.{one_history}
 use Rattle.history_lines.proofs.OneVerdict.{one_verdict}
 use Rattle.tlb_text.specs.EventText.{IsEventText}
 use Rattle.tlb_text.proofs.Behind.{is_event_text}
+use Rattle.mm_script.proofs.OneArgument.{same_number}
+use Rattle.corten_run.specs.VictimText.{IsFound}
 use Rattle.corten_run.specs.Commands.{Names, greatest_length}
-use Rattle.corten_run.specs.Endings.{Sides, CommandEnds, Answers, IsNoText, IsFirstFault, Refuses, IsVerdictText, ending_of, verdict_line}
+use Rattle.corten_run.specs.Endings.{Sides, CommandEnds, Answers, IsNoText, IsFirstFault, Refuses, IsVerdictText, IsVictimsText, ending_of, verdict_line}
 use Rattle.corten_run.specs.Statuses.{status_of}
 use Rattle.corten_run.specs.declared.command.Levels.{Levels}
 use Rattle.corten_run.specs.declared.command.Levels.TheVariants.{Four, Five}
 use Rattle.corten_run.specs.declared.command.Command.{Command}
-use Rattle.corten_run.specs.declared.command.Command.TheVariants.{Solo, Check, Tlb}
+use Rattle.corten_run.specs.declared.command.Command.TheVariants.{Solo, Check, Victims, Tlb}
 use Rattle.corten_run.specs.declared.ending.Ending.{Ending}
 use Rattle.corten_run.specs.declared.ending.Ending.TheVariants.{Done, Refused, Usage, ReadFailed, WriteFailed, NoMemory, Illegal}
 
@@ -32,6 +34,7 @@ use Rattle.corten_run.specs.declared.ending.Ending.TheVariants.{Done, Refused, U
 answers_no_text : (command : Command) (bytes written : List ℕ) (e : Ending) → Answers command bytes e written → (length bytes ≤ greatest_length command → IsNoText command bytes) → ⊥
 answers_no_text (Solo levels) bytes written e h none = none h.0.fits h.0.script h.0.is_text
 answers_no_text Check bytes written e h none = none h.fits h.history h.is_text
+answers_no_text (Victims most) bytes written e h none = none h.fits h.history h.is_text
 answers_no_text Tlb bytes written e h none = none h.0.fits (is_event_text bytes written h.0.answers)
 
 -- bytes that are no such text are refused, or memory is wanted
@@ -134,6 +137,52 @@ judged_if None h v s e n is told quiet silent = tt
 judged_if (Some bytes) h v s e n is told quiet silent =
     λ is_text fits is_verdict. subst (λ m. (m ≡ status_of (ending_of v)) ⊎ (m ≡ 5)) (sym is) (judged_when bytes h v s e told quiet silent is_text fits is_verdict)
 
+-- a history's victims are found, or it is not legal, or memory is wanted
+ends_as_judged : (most : ℕ) (written : List ℕ) (e : Ending) (h : History) (v : Verdict) → HasText h → IsFound most h e written → IsVerdict h v → e ≡ ending_of v
+ends_as_judged most written Done h v has_text found is_verdict = ap ending_of (one_verdict h (verdict.Legal (length h.entries)) v has_text (found.0, refl) is_verdict)
+ends_as_judged most written Illegal h v has_text found is_verdict = ap ending_of (one_verdict h (verdict.Illegal found.0) v has_text found.1 is_verdict)
+ends_as_judged most written _ h v has_text found is_verdict = absurd found
+
+found_ending : (most : ℕ) (bytes written : List ℕ) (e : Ending) (h : History) (v : Verdict) → IsVictimsText most bytes e written → IsHistoryText bytes h → IsVerdict h v → e ≡ ending_of v
+found_ending most bytes written e h v found is_text is_verdict =
+    let same : found.history ≡ h = one_history bytes h found.history is_text found.is_text in
+    ends_as_judged most written e h v is_text.has_text (subst (λ x. IsFound most x e written) same found.found) is_verdict
+
+found_when : (most : ℕ) (bytes : List ℕ) (h : History) (v : Verdict) (s : Sides) (e : Ending) → CommandEnds (Victims most) bytes s e → ¬ (Rises s.read_faults s.read_faults_now) → ¬ (Rises s.write_faults s.write_faults_now)
+    → IsHistoryText bytes h → length bytes ≤ greatest_length (Victims most) → IsVerdict h v → (status_of e ≡ status_of (ending_of v)) ⊎ (status_of e ≡ 5)
+found_when most bytes h v s Done ends quiet silent is_text fits is_verdict = inl (ap status_of (found_ending most bytes ends.0 Done h v ends.1 is_text is_verdict))
+found_when most bytes h v s Illegal ends quiet silent is_text fits is_verdict = inl (ap status_of (found_ending most bytes ends.0 Illegal h v ends.1 is_text is_verdict))
+found_when most bytes h v s Refused (written, inl bad, said) quiet silent is_text fits is_verdict = absurd (bad.no_text h is_text)
+found_when most bytes h v s Refused (written, inr long, said) quiet silent is_text fits is_verdict = let more = long.too_long in absurd (omega (arith, more, fits))
+found_when most bytes h v s Usage ends quiet silent is_text fits is_verdict = absurd ends
+found_when most bytes h v s ReadFailed ends quiet silent is_text fits is_verdict = absurd (quiet ends.0)
+found_when most bytes h v s WriteFailed ends quiet silent is_text fits is_verdict = absurd (silent ends.1)
+found_when most bytes h v s NoMemory ends quiet silent is_text fits is_verdict = inr refl
+
+found_if : (most : ℕ) (left : Option (List ℕ)) (h : History) (v : Verdict) (s : Sides) (e : Ending) (n : ℕ) → n ≡ status_of e → IfSome left (λ bytes. CommandEnds (Victims most) bytes s e) → ¬ (Rises s.read_faults s.read_faults_now) → ¬ (Rises s.write_faults s.write_faults_now)
+    → IfSome left (λ bytes. IsHistoryText bytes h → length bytes ≤ greatest_length (Victims most) → IsVerdict h v → (n ≡ status_of (ending_of v)) ⊎ (n ≡ 5))
+found_if most None h v s e n is told quiet silent = tt
+found_if most (Some bytes) h v s e n is told quiet silent =
+    λ is_text fits is_verdict. subst (λ m. (m ≡ status_of (ending_of v)) ⊎ (m ≡ 5)) (sym is) (found_when most bytes h v s e told quiet silent is_text fits is_verdict)
+
+pub found_named : (command : Command) (most : ℕ) → command ≡ Victims most → (left : Option (List ℕ)) (h : History) (v : Verdict) (s : Sides) (e : Ending) (n : ℕ) → n ≡ status_of e → IfSome left (λ bytes. CommandEnds command bytes s e)
+    → ¬ (Rises s.read_faults s.read_faults_now) → ¬ (Rises s.write_faults s.write_faults_now)
+    → IfSome left (λ bytes. IsHistoryText bytes h → length bytes ≤ greatest_length (Victims most) → IsVerdict h v → (n ≡ status_of (ending_of v)) ⊎ (n ≡ 5))
+found_named command most is left h v s e n status told = found_if most left h v s e n status (subst (λ k. IfSome left (λ bytes. CommandEnds k bytes s e)) is told)
+
+-- where a text was found, no ending of it is a fault
+pub no_fault_found : (most : ℕ) (h : History) (e : Ending) (written : List ℕ) → IsFound most h e written → (e ≢ ReadFailed) × (e ≢ WriteFailed)
+no_fault_found most h Done written found = (λ e. cc, λ e. cc)
+no_fault_found most h Illegal written found = (λ e. cc, λ e. cc)
+no_fault_found most h _ written found = absurd found
+
+-- the whole text was written
+pub found_ends : (most : ℕ) (bytes written : List ℕ) (h : History) (e : Ending) (s : Sides) → IsHistoryText bytes h → length bytes ≤ greatest_length (Victims most) → IsFound most h e written → HasWritten s.held s.held_now written → IsAtEnd s.left_now
+    → CommandEnds (Victims most) bytes s e
+found_ends most bytes written h Done s is_text fits found whole end = (written, record { history = h; is_text = is_text; fits = fits; found = found }, whole, end)
+found_ends most bytes written h Illegal s is_text fits found whole end = (written, record { history = h; is_text = is_text; fits = fits; found = found }, whole, end)
+found_ends most bytes written h _ s is_text fits found whole end = absurd found
+
 -- the whole line of what was found was written
 pub verdict_ends : (bytes : List ℕ) (h : History) (v : Verdict) (s : Sides) → IsHistoryText bytes h → length bytes ≤ greatest_length Check → IsVerdict h v → HasWritten s.held s.held_now (verdict_line v) → IsAtEnd s.left_now
     → CommandEnds Check bytes s (ending_of v)
@@ -149,6 +198,15 @@ verdict_text bytes h v is_text fits is_verdict = record { history = h; is_text =
 pub no_fault_ending : (v : Verdict) → (ending_of v ≢ ReadFailed) × (ending_of v ≢ WriteFailed)
 no_fault_ending (verdict.Legal n) = (λ e. cc, λ e. cc)
 no_fault_ending (verdict.Illegal n) = (λ e. cc, λ e. cc)
+
+second : {a b x y : List ℕ} → a ∷ x ∷ [] ≡ b ∷ y ∷ [] → x ≡ y
+second e = cc
+
+-- the first letter of `victims` is no other command's
+abbrev first_letter : List (List ℕ) → ℕ
+first_letter [] = 0
+first_letter ([] ∷ words) = 0
+first_letter ((letter ∷ letters) ∷ words) = letter
 
 -- words name one command at most
 pub one_command : (words : List (List ℕ)) (a b : Command) → Names words a → Names words b → a ≡ b
@@ -168,6 +226,15 @@ one_command words Tlb (Solo Four) ha hb = let same = sym ha ∙ hb in absurd (cc
 one_command words Tlb (Solo Five) ha hb = let same = sym ha ∙ hb in absurd (cc same)
 one_command words Tlb Check ha hb = let same = sym ha ∙ hb in absurd (cc same)
 one_command words Tlb Tlb ha hb = refl
+one_command words (Victims m) (Victims n) ha hb = ap Victims (same_number m n 4096 ha.0.1 hb.0.1 (omega arith) (second (sym ha.1 ∙ hb.1)))
+one_command words (Victims m) (Solo Four) ha hb = let differ = ap first_letter (sym ha.1 ∙ hb) in absurd (omega (arith, differ))
+one_command words (Victims m) (Solo Five) ha hb = let differ = ap first_letter (sym ha.1 ∙ hb) in absurd (omega (arith, differ))
+one_command words (Victims m) Check ha hb = let differ = ap first_letter (sym ha.1 ∙ hb) in absurd (omega (arith, differ))
+one_command words (Victims m) Tlb ha hb = let differ = ap first_letter (sym ha.1 ∙ hb) in absurd (omega (arith, differ))
+one_command words (Solo Four) (Victims n) ha hb = let differ = ap first_letter (sym hb.1 ∙ ha) in absurd (omega (arith, differ))
+one_command words (Solo Five) (Victims n) ha hb = let differ = ap first_letter (sym hb.1 ∙ ha) in absurd (omega (arith, differ))
+one_command words Check (Victims n) ha hb = let differ = ap first_letter (sym hb.1 ∙ ha) in absurd (omega (arith, differ))
+one_command words Tlb (Victims n) ha hb = let differ = ap first_letter (sym hb.1 ∙ ha) in absurd (omega (arith, differ))
 
 pub told_named : (command named : Command) → command ≡ named → (left : Option (List ℕ)) (s : Sides) (e : Ending) (n : ℕ) → n ≡ status_of e → IfSome left (λ bytes. CommandEnds command bytes s e)
     → IfSome left (λ bytes. (ending : Ending) × (n ≡ status_of ending) × CommandEnds named bytes s ending)

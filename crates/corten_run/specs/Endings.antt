@@ -2,6 +2,7 @@
 --     IsSoloText      what `solo` writes for the bytes of a script
 --     IsTlbText      what `tlb` writes for the bytes of events
 --     verdict_line, ending_of, IsVerdictText      what `check` writes for the bytes of a history, and how it ends then
+--     IsVictimsText      what `victims` writes for them, and how it ends then
 --     Answers      what a command writes for them, where it ends so
 --     IsNoText, IsFirstFault      that they are none of the texts which a command reads, and the number of the first line outside
 --     IsBadLine, IsLongLine, IsRefusal      what it writes for other bytes
@@ -25,10 +26,11 @@ use Rattle.history_lines.specs.HistoryText as histories
 use Rattle.history_lines.specs.Checking.{IsVerdict}
 use Rattle.tlb_text.specs.EventText as events
 use Rattle.corten_run.specs.Solo.{solo_text}
+use Rattle.corten_run.specs.VictimText.{IsFound}
 use Rattle.corten_run.specs.Commands.{greatest_length}
 use Rattle.corten_run.specs.declared.command.Levels.{Levels}
 use Rattle.corten_run.specs.declared.command.Command.{Command}
-use Rattle.corten_run.specs.declared.command.Command.TheVariants.{Solo, Check, Tlb}
+use Rattle.corten_run.specs.declared.command.Command.TheVariants.{Solo, Check, Victims, Tlb}
 use Rattle.corten_run.specs.declared.ending.Ending.{Ending}
 use Rattle.corten_run.specs.declared.ending.Ending.TheVariants.{Done, Refused, Usage, ReadFailed, WriteFailed, NoMemory, Illegal}
 
@@ -62,22 +64,32 @@ pub record IsVerdictText (bytes : List ℕ) (ending : Ending) (written : List �
   pub ends : ending ≡ ending_of verdict
   pub line : written ≡ verdict_line verdict
 
+-- the bytes are a history's text, and this is the text of its victims, or of the verdict that it is not legal, with this ending
+pub record IsVictimsText (most : ℕ) (bytes : List ℕ) (ending : Ending) (written : List ℕ) : Type 0 where
+  pub history : History
+  pub is_text : histories.IsHistoryText bytes history
+  pub fits : length bytes ≤ greatest_length (Victims most)
+  pub found : IsFound most history ending written
+
 -- the whole text that a command writes where it ends so
 abbrev pub Answers : Command → List ℕ → Ending → List ℕ → Type 0
 Answers (Solo levels) bytes ending written = IsSoloText levels bytes written × (ending ≡ Done)
 Answers Check bytes ending written = IsVerdictText bytes ending written
+Answers (Victims most) bytes ending written = IsVictimsText most bytes ending written
 Answers Tlb bytes ending written = IsTlbText bytes written × (ending ≡ Done)
 
 -- the bytes are not the text that a command reads
 abbrev pub IsNoText : Command → List ℕ → Type 0
 IsNoText (Solo levels) bytes = (script : Script) → ¬ (scripts.IsScriptText bytes script)
 IsNoText Check bytes = (h : History) → ¬ (histories.IsHistoryText bytes h)
+IsNoText (Victims most) bytes = (h : History) → ¬ (histories.IsHistoryText bytes h)
 IsNoText Tlb bytes = ¬ (events.IsEventText bytes)
 
 -- the number of the first line outside the grammar of the texts that a command reads
 abbrev pub IsFirstFault : Command → List ℕ → ℕ → Type 0
 IsFirstFault (Solo levels) = scripts.IsFirstFault
 IsFirstFault Check = histories.IsFirstFault
+IsFirstFault (Victims most) = histories.IsFirstFault
 IsFirstFault Tlb = events.IsFirstFault
 
 -- the bytes are no text that the command reads, and the line names the first line outside the grammar

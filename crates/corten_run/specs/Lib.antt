@@ -1,4 +1,5 @@
 pub mod Solo
 pub mod Commands
+pub mod VictimText
 pub mod Endings
 pub mod Statuses

@@ -7,13 +7,14 @@ ghost use Rattle.history_lines.specs.Outcomes.{IsWritten};
 ghost use Rattle.corten_run.specs.declared.command.Command.TheVariants as command;
 ghost use Rattle.corten_run.specs.declared.command.Command.{Command};
 ghost use Rattle.corten_run.specs.declared.ending.Ending.{Ending};
-ghost use Rattle.corten_run.specs.Commands.{greatest_length};
+ghost use Rattle.corten_run.specs.Commands.{ReadsHistory, greatest_length};
 ghost use Rattle.corten_run.specs.Endings as definitions;
 ghost use Rattle.corten_run.specs.Endings.{verdict_line, CommandEnds};
 
 use crate::command::{Command, Levels};
 use crate::ending::Ending;
 use crate::script_run::write_solo;
+use crate::victims::find_victims;
 use byte_streams::write_whole;
 use corten_base::Sink;
 use history_text::{Verdict, Written, check, read_history};
@@ -23,7 +24,7 @@ use text_words::push_number;
 use tlb_text::answer_events;
 
 /// A line of a word and a number.
-fn numbered_line(alloc: Global, word: &[u8], line: u64) -> Result<Vec<u8>, AllocError>
+pub(crate) fn numbered_line(alloc: Global, word: &[u8], line: u64) -> Result<Vec<u8>, AllocError>
     ensures { IfOk result (λ text. text.items ≡ ended (word.now ++ number line)) }
 {
     let mut text = Vec::from_slice(alloc, word)?;
@@ -132,6 +133,37 @@ fn answer_history<K: Sink>(alloc: Global, bytes: &[u8], sink: &mut K) -> Ending
     }
 }
 
+/// Finds the victims of the history whose text the bytes are.
+fn answer_victims<K: Sink>(alloc: Global, most: u16, bytes: &[u8], sink: &mut K) -> Ending
+    requires { length bytes.now ≤ greatest_length (command.Victims most) }
+    ensures ends { CommandEnds (command.Victims most) bytes.now (record {
+      left_now = Some [];
+      read_faults = 0;
+      read_faults_now = 0;
+      held = K.held sink.old;
+      held_now = K.held sink.new;
+      write_faults = K.faults sink.old;
+      write_faults_now = K.faults sink.new;
+    }) result }
+    ensures read { result ≢ Ending.ReadFailed }
+    ensures write_fault { result ≡ Ending.WriteFailed
+        → Rises (K.faults sink.old) (K.faults sink.new) }
+{
+    let history = match read_history(alloc, bytes) {
+        Ok(history) => history,
+        Err(ScriptFault::Bad(line)) => return refuse(alloc, line, sink),
+        Err(ScriptFault::NoMemory) => return Ending::NoMemory,
+    };
+    let Ok((ending, text)) = find_victims(alloc, &history, most) else {
+        return Ending::NoMemory;
+    };
+    if write_whole(sink, text.as_slice()) {
+        ending
+    } else {
+        Ending::WriteFailed
+    }
+}
+
 /// Answers the events whose text the bytes are.
 fn answer_caches<K: Sink>(alloc: Global, bytes: &[u8], sink: &mut K) -> Ending
     requires { length bytes.now ≤ greatest_length command.Tlb }
@@ -175,13 +207,14 @@ pub(crate) fn answer<K: Sink>(alloc: Global, command: Command, bytes: &[u8], sin
       write_faults_now = K.faults sink.new;
     }) result }
     ensures read { result ≢ Ending.ReadFailed }
-    ensures illegal { result ≡ Ending.Illegal → command ≡ Command.Check }
+    ensures illegal { result ≡ Ending.Illegal → ReadsHistory command }
     ensures write_fault { result ≡ Ending.WriteFailed
         → Rises (K.faults sink.old) (K.faults sink.new) }
 {
     match command {
         Command::Solo(levels) => answer_script(alloc, levels, bytes, sink),
         Command::Check => answer_history(alloc, bytes, sink),
+        Command::Victims(most) => answer_victims(alloc, most, bytes, sink),
         Command::Tlb => answer_caches(alloc, bytes, sink),
     }
 }

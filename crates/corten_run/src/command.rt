@@ -1,9 +1,13 @@
 //! The words of the command line.
-ghost use Rattle.std.specs.Prelude.{◌≡◌, map, IfSome, IfNone};
+ghost use Rattle.std.specs.Prelude.{◌≡◌, ◌≢◌, ◌≤◌, ℕ, map, IfSome, IfNone};
 ghost use Rattle.std.specs.String.{string_bytes};
+ghost use Rattle.text_words.specs.Spelling.{number};
+ghost use Rattle.mm_script.specs.CallLine.{IsWithin};
 ghost use Rattle.corten_run.specs.Commands.{Names, level_count};
 ghost use Rattle.corten_run.specs.Commands as definitions;
 ghost use Rattle.corten_run.specs.declared.command.Command.{Command};
+
+use text_words::read_number;
 
 /// How many levels the page tables have.
 #[derive(Clone, Copy, Debug, PartialEq, Eq)]
@@ -31,8 +35,27 @@ pub enum Command {
     Solo(Levels),
     /// Reads a history and says whether it is legal.
     Check,
+    /// Reads a history and says which pages should go to swap first, at most so many.
+    Victims(u16),
     /// Reads events of translation caches and answers each.
     Tlb,
+}
+
+/// The number from 1 to `most` that a word spells.
+fn read_count(word: &[u8], most: u16) -> Option<u16>
+    requires { most ≤ 4096 }
+    ensures found { IfSome result (λ n. IsWithin 1 most n × (word.now ≡ number n)) }
+    ensures none { IfNone result ((n : ℕ) → IsWithin 1 most n → word.now ≢ number n) }
+{
+    let found = read_number(word)?;
+    if found == 0 {
+        return None;
+    }
+    if found <= u64::from(most) {
+        Some(found as u16)
+    } else {
+        None
+    }
 }
 
 /// The command that the words after the program's name spell.
@@ -48,6 +71,9 @@ pub fn read_command(words: &[String]) -> Option<Command>
         [word, levels] if word.as_str() == "solo" && levels.as_str() == "5" => {
             Some(Command::Solo(Levels::Five))
         }
+        [word, most] if word.as_str() == "victims" => {
+            Some(Command::Victims(read_count(most.as_str().as_bytes(), 4096)?))
+        }
         _ => None,
     }
 }
@@ -58,7 +84,7 @@ pub fn greatest_length(command: Command) -> usize
 {
     match command {
         Command::Solo(_) => 4_194_304,
-        Command::Check => 67_108_864,
+        Command::Check | Command::Victims(_) => 67_108_864,
         Command::Tlb => 4_194_304,
     }
 }

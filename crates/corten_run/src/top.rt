@@ -1,5 +1,5 @@
 //! The call that the program makes.
-ghost use Rattle.std.specs.Prelude.{◌≡◌, ◌≢◌, ◌≤◌, ◌<◌, ◌⊎◌, ◌↔◌, [], length, map, IfSome};
+ghost use Rattle.std.specs.Prelude.{◌≡◌, ◌≢◌, ◌≤◌, ◌<◌, ◌⊎◌, ◌↔◌, ℕ, [], length, map, IfSome};
 ghost use Rattle.std.specs.String.{string_bytes};
 ghost use Rattle.corten_base.specs.Outside.{Rises};
 ghost use Rattle.mm_script.specs.declared.script.Script.{Script};
@@ -14,7 +14,7 @@ ghost use Rattle.corten_run.specs.declared.command.Command.{Command};
 ghost use Rattle.corten_run.specs.declared.command.Command.TheVariants as command;
 ghost use Rattle.corten_run.specs.declared.ending.Ending.{Ending};
 ghost use Rattle.corten_run.specs.Commands as definitions;
-ghost use Rattle.corten_run.specs.Commands.{Names, usage_line};
+ghost use Rattle.corten_run.specs.Commands.{Names, ReadsHistory, usage_line};
 ghost use Rattle.corten_run.specs.Statuses.{status_of};
 ghost use Rattle.corten_run.specs.Endings.{IsSaid, IsNoText, ending_of, CommandEnds};
 
@@ -25,7 +25,7 @@ use byte_streams::{ReadWhole, read_whole, write_whole};
 use corten_base::{Sink, Source};
 use std::alloc::Global;
 
-const USAGE: &[u8] = b"usage: cortenmm solo [5] | check | run [5] | load N K | tlb\n";
+const USAGE: &[u8] = b"usage: cortenmm solo [5] | check | run [5] | load N K | victims N | tlb\n";
 
 /// Reads a source whole, and answers what was read.
 fn serve<S: Source, K: Sink>(
@@ -48,7 +48,7 @@ fn serve<S: Source, K: Sink>(
     ensures write_fault { result ≡ Ending.WriteFailed
         → Rises (K.faults sink.old) (K.faults sink.new) }
     ensures words { result ≢ Ending.Usage }
-    ensures illegal { result ≡ Ending.Illegal → command ≡ Command.Check }
+    ensures illegal { result ≡ Ending.Illegal → ReadsHistory command }
 {
     match read_whole(alloc, source, greatest_length(command)) {
         Ok(ReadWhole::All(bytes)) => answer(alloc, command, bytes.as_slice(), sink),
@@ -114,6 +114,15 @@ pub fn corten_plain<S: Source, K: Sink>(
         → length bytes ≤ definitions.greatest_length command.Check
         → IsVerdict history verdict
         → (result ≡ status_of (ending_of verdict)) ⊎ (result ≡ 5)) }
+    // The victims of a history within its length are found, if it is legal.
+    ensures finds { (most : ℕ) (history : History) (verdict : Verdict)
+        → Names (map string_bytes words.now) (command.Victims most)
+        → ¬ (Rises (S.faults source.old) (S.faults source.new))
+        → ¬ (Rises (K.faults sink.old) (K.faults sink.new))
+        → IfSome (S.left source.old) (λ bytes. IsHistoryText bytes history
+        → length bytes ≤ definitions.greatest_length (command.Victims most)
+        → IsVerdict history verdict
+        → (result ≡ status_of (ending_of verdict)) ⊎ (result ≡ 5)) }
     // Events within their length are answered.
     ensures answers_events { Names (map string_bytes words.now) command.Tlb
         → ¬ (Rises (S.faults source.old) (S.faults source.new))
@@ -128,7 +137,8 @@ pub fn corten_plain<S: Source, K: Sink>(
         (length bytes ≤ definitions.greatest_length command → IsNoText command bytes)
         → (result ≡ 1) ⊎ (result ≡ 5)) }
     // What is found not to be legal is a history.
-    ensures illegal { result ≡ 6 → Names (map string_bytes words.now) command.Check }
+    ensures illegal { result ≡ 6
+        → (command : Command) × Names (map string_bytes words.now) command × ReadsHistory command }
     ensures status { result ≤ 6 }
 {
     let Some(command) = read_command(words) else {

@@ -18,7 +18,7 @@ const FIVE: &str =
 const ILLEGAL: &str =
     "corten 1\nframes 2\ntables 4\nswap 1\n0 map 0 any 1 rw- zero = at 0x8000000000\nframes 2 free 2 mapped 0\nswap 1 free 1 used 0\ntables 4 linked 4 limbo 1\n";
 
-const USAGE: &str = "usage: cortenmm solo [5] | check | run [5] | load N K | tlb\n";
+const USAGE: &str = "usage: cortenmm solo [5] | check | run [5] | load N K | victims N | tlb\n";
 
 /// Devices that move so many bytes a call, and at least one, and whose calls with these numbers fail.
 #[derive(Clone, Copy)]

@@ -18,6 +18,21 @@ returns-in-Check-clause-ends g c =
     } in
     subst (λ k. CommandEnds k c.args.bytes.now sides c.answer_history.result) (sym c.in-Check.is) c.answer_history.ensures.ends
 
+pub returns-in-Victims-clause-ends : goal.returns-in-Victims-clause-ends
+returns-in-Victims-clause-ends g c =
+    let held = g.K.Sink.held in
+    let faults = g.K.Sink.faults in
+    let sides : Sides = record {
+      left_now = Some [];
+      read_faults = 0;
+      read_faults_now = 0;
+      held = held c.args.sink.now;
+      held_now = held c.answer_victims.new.sink;
+      write_faults = faults c.args.sink.now;
+      write_faults_now = faults c.answer_victims.new.sink;
+    } in
+    subst (λ k. CommandEnds k c.args.bytes.now sides c.answer_victims.result) (sym c.in-Victims.is) c.answer_victims.ensures.ends
+
 pub returns-in-Tlb-clause-ends : goal.returns-in-Tlb-clause-ends
 returns-in-Tlb-clause-ends g c =
     let held = g.K.Sink.held in

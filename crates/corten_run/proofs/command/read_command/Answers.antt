@@ -1,5 +1,6 @@
--- The one word is `solo`, `check` or `tlb`, or the two are `solo` and `5`.
+-- The one word is `solo`, `check` or `tlb`, or the two are `solo` and `5`, or `victims` and a number.
 use Rattle.std.proofs.Common.{[], ◌∷◌, ap, sym, ◌∙◌}
+use Rattle.std.specs.Prelude.{codes}
 use Rattle.std.specs.String.{string_bytes}
 use lib.Pointwise.{bytes_decides}
 use Rattle.corten_run.proofs.Single.{map_single, map_pair}
@@ -25,3 +26,11 @@ returns-in-len2-clause-found c =
     map_pair string_bytes c.args.words.now c.word-item-then-words-lt3.result c.levels-item.result c.in-len2.len_at_least c.in-len2.len_below c.word-item-then-words-lt3.is c.levels-item.is
     ∙ ap (λ text. text ∷ string_bytes c.levels-item.result ∷ []) (sym c.as_str-then-words-lt3.ensures.value ∙ (bytes_decides _ _).0 (sym c.eq-then-words-lt3.ensures ∙ c.if-eq-4.true))
     ∙ ap (λ text. (115 ∷ 111 ∷ 108 ∷ 111 ∷ []) ∷ text ∷ []) (sym c.as_str-then-eq-4.ensures.value ∙ (bytes_decides _ _).0 (sym c.eq-then-eq-4.ensures ∙ c.if-eq-5.true))
+
+pub returns-in_ok-read_count-in-len2-2-clause-found : goal.returns-in_ok-read_count-in-len2-2-clause-found
+returns-in_ok-read_count-in-len2-2-clause-found c = (
+  c.in_ok-read_count-in-len2-2.ensures.found.0,
+  map_pair string_bytes c.args.words.now c.word-item-then-words-lt3-2.result c.most-item.result c.in-len2.len_at_least c.in-len2.len_below c.word-item-then-words-lt3-2.is c.most-item.is
+      ∙ ap (λ text. text ∷ string_bytes c.most-item.result ∷ []) (sym c.as_str-then-words-lt3-2.ensures.value ∙ (bytes_decides _ _).0 (sym c.eq-then-words-lt3-2.ensures ∙ c.if-eq-6.true))
+      ∙ ap (λ text. codes "victims" ∷ text ∷ []) (sym c.as_str-in-len2-2.ensures.value ∙ sym c.as_bytes.ensures.value ∙ c.in_ok-read_count-in-len2-2.ensures.found.1),
+)

@@ -1,6 +1,6 @@
 -- Other words name no command; the status is that of the ending.
-use Rattle.corten_run.specs.declared.command.Command.TheVariants.{Solo, Check, Tlb}
-use Rattle.corten_run.proofs.Told.{told_named, done_named, refused_named, judged_named, answered_named, one_command}
+use Rattle.corten_run.specs.declared.command.Command.TheVariants.{Solo, Check, Victims, Tlb}
+use Rattle.corten_run.proofs.Told.{told_named, done_named, refused_named, judged_named, found_named, answered_named, one_command}
 use Rattle.corten_run.proofs.top.corten_plain.Goals as goal
 
 pub returns-in_default-clause-complete : goal.returns-in_default-clause-complete
@@ -29,6 +29,13 @@ returns-clause-complete g c = λ levels script named quiet silent.
 pub returns-clause-judges : goal.returns-clause-judges
 returns-clause-judges g c = λ history verdict named quiet silent.
     judged_named c.in-Some.command (one_command _ c.in-Some.command Check c.in-Some.ensures.found named) _ history verdict _ c.serve.result c.status-2.result c.status-2.ensures c.serve.ensures.told quiet silent
+
+pub returns-in_default-clause-finds : goal.returns-in_default-clause-finds
+returns-in_default-clause-finds g c = λ most history verdict named quiet silent. absurd (c.in_default.ensures.none (Victims most) named)
+
+pub returns-clause-finds : goal.returns-clause-finds
+returns-clause-finds g c = λ most history verdict named quiet silent.
+    found_named c.in-Some.command most (one_command _ c.in-Some.command (Victims most) c.in-Some.ensures.found named) _ history verdict _ c.serve.result c.status-2.result c.status-2.ensures c.serve.ensures.told quiet silent
 
 pub returns-clause-answers_events : goal.returns-clause-answers_events
 returns-clause-answers_events g c = λ named quiet silent.

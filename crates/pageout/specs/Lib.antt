@@ -1,0 +1,6 @@
+pub mod Touches
+pub mod Victims
+pub mod Index
+pub mod Work
+pub mod Refresh
+pub mod Ages
