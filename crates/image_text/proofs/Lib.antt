@@ -1,0 +1,13 @@
+pub mod OneItem
+pub mod Trimmings
+pub mod Orders
+pub mod GoingOn
+pub mod Beginnings
+pub mod Behind
+pub mod Bodies
+pub mod Maps
+pub mod Unlikes
+pub mod Counts
+pub mod Drafts
+pub mod OneImage
+pub mod Printed

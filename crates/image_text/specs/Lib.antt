@@ -1,0 +1,4 @@
+pub mod Items
+pub mod Images
+pub mod ImageText
+pub mod Reading
