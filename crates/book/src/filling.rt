@@ -120,9 +120,9 @@ pub(crate) fn fetch_slots(
     ensures sole { AreSole pool.new frames.new }
     ensures room { vec_capacity slots.new ≡ vec_capacity slots.old }
 {
-    let mut bytes = [0; PAGE_BYTES];
     for _left in 0..slots.len() {
         let (page, slot) = slots.pop().unwrap();
+        let mut bytes = [0; PAGE_BYTES];
         area.take_out(slot, &mut bytes);
         write_page(pool, frames, page, &bytes);
     }

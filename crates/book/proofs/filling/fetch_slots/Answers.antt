@@ -22,7 +22,6 @@ loop-left-init c = record {
   pool = refl;
   copied = sym (no_sources c.args.frames.now) ∙ ap (λ (rs : Refs). map (with_source (bytes_of rs)) c.args.frames.now) (sym (none_yet c.args.slots.now.items));
   sole = c.requires.sole;
-  whole = refl;
 }
 
 pub loop-left-preserved : goal.loop-left-preserved
@@ -33,7 +32,7 @@ loop-left-preserved c =
     let parts : c.loop-left.slots.items ≡ rest ++ r ∷ [] = rw c.unwrap-page.ensures at c.pop.ensures.items in
     let few : c.loop-left._left < length c.args.slots.now.items = omega (arith, c.loop-left-test.true, c.len-left-end.ensures, c.args.slots.now.ok.0) in
     let left : rest ≡ take (length c.args.slots.now.items - (c.loop-left._left + 1)) c.args.slots.now.items = popped_rest c.args.slots.now.items c.loop-left.slots.items rest c.loop-left._left r few was.left parts in
-    let whole : length c.take_out.new.into ≡ 4096 = c.take_out.auto.into ∙ was.whole in
+    let whole : length c.take_out.new.into ≡ 4096 = c.take_out.auto.into in
     record {
       gives = gives_one c.args.area.now c.loop-left.area c.take_out.new.self c.args.slots.now.items c.loop-left.slots.items rest rest [] r was.gives parts (sym (append-nil rest)) c.take_out.ensures.counted;
       left = left;
@@ -43,5 +42,4 @@ loop-left-preserved c =
       copied = copied_step c.args.slots.now.items c.args.frames.now c.loop-left.frames c.write_page.new.frames c.loop-left._left r c.take_out.new.into few
           (popped_is c.args.slots.now.items c.loop-left.slots.items rest c.loop-left._left r few was.left parts left) c.take_out.ensures.bytes was.copied c.write_page.ensures.written;
       sole = sole_so c.loop-left.pool c.write_page.new.pool r.0 c.take_out.new.into whole c.loop-left.frames c.write_page.new.frames was.sole c.write_page.ensures.pool c.write_page.ensures.written;
-      whole = whole;
     }

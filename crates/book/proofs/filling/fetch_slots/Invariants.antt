@@ -13,5 +13,4 @@ invariant-loop-left l = record {
   pool : l.pool ≡ l.initial.pool;
   copied : l.frames ≡ map (with_source (bytes_of (drop (length l.initial.slots.items - l._left) l.initial.slots.items))) l.initial.frames;
   sole : AreSole l.pool l.frames;
-  whole : length l.bytes ≡ 4096;
 }
