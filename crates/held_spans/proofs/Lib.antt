@@ -1,0 +1,8 @@
+pub mod Leasts
+pub mod Told
+pub mod Passed
+pub mod Gaping
+pub mod Ongoing
+pub mod Placed
+pub mod Piling
+pub mod Moved
