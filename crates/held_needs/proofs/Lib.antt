@@ -1,0 +1,11 @@
+pub mod Counted
+pub mod Lowest
+pub mod Edges
+pub mod Pages
+pub mod Early
+pub mod Needs
+pub mod Copied
+pub mod CopyNeeds
+pub mod Trailing
+pub mod Moves
+pub mod Remaps
