@@ -1,0 +1,11 @@
+pub mod Lists
+pub mod Empty
+pub mod Positions
+pub mod Changed
+pub mod OneCut
+pub mod RowLists
+pub mod Started
+pub mod Ready
+pub mod Further
+pub mod Finished
+pub mod Gone

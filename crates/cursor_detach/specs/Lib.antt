@@ -1,0 +1,4 @@
+pub mod Removing
+pub mod Cutting
+pub mod Left
+pub mod Detaching
