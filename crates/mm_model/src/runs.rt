@@ -1,5 +1,5 @@
 //! What is there of a space, run by run, and of the machine beside its spaces.
-ghost use Rattle.std.specs.Prelude.{◌≡◌, ℕ, ◌<◌, ◌≤◌, ◌↔◌, length, None, IfSome, IfNone, IsSome, IsTrue};
+ghost use Rattle.std.specs.Prelude.{◌≡◌, ℕ, ◌+◌, ◌^◌, ◌<◌, ◌≤◌, ◌↔◌, length, None, IfSome, IfNone, IsSome, IsTrue};
 ghost use Rattle.std.specs.Option.{unwrap_or};
 ghost use Rattle.std.specs.FinMap as map;
 ghost use Rattle.page_map.specs.State.{cell_at, space_at};
@@ -47,6 +47,7 @@ impl Plain {
     /// The first longest run of like pages that has a page from there on, or the first page with a frame or a swap slot.
     pub fn run_from(&self, space: SpaceId, page: u64) -> Option<Run>
         ensures some { IfSome result (IsRunFrom (space_at self.now space) page) }
+        ensures small { IfSome result (λ run. run.first + run.count ≤ 2 ^ 44) }
         ensures none { IfNone result ((q : ℕ) → page ≤ q → cell_at self.now space q ≡ None) }
     {
         let Some(cells) = self.spaces.get(space.number()) else {

@@ -1,5 +1,5 @@
 //! Runs of like pages that are as long as they can be, whatever runs they are kept in.
-ghost use Rattle.std.specs.Prelude.{◌≡◌, ℕ, ◌≤◌, ◌↔◌, length, None, IfSome, IfNone, IsSome, IsTrue};
+ghost use Rattle.std.specs.Prelude.{◌≡◌, ℕ, ◌+◌, ◌≤◌, ◌↔◌, length, None, IfSome, IfNone, IsSome, IsTrue};
 ghost use Rattle.std.specs.Option.{unwrap_or};
 ghost use Rattle.std.specs.FinMap as map;
 ghost use Rattle.space_cells.specs.Held.{held_at};
@@ -46,6 +46,7 @@ impl AddressSpace {
         requires range { page ≤ end }
         requires all { (q : ℕ) → end ≤ q → map.get self.now q ≡ None }
         ensures some { IfSome result (λ run. IsLongestFrom self.now page run.first run.count) }
+        ensures within { IfSome result (λ run. run.first + run.count ≤ end) }
         ensures none { IfNone result ((q : ℕ) → page ≤ q → map.get self.now q ≡ None) }
     {
         let Some(found) = self.next(page, end) else {
