@@ -1,0 +1,17 @@
+pub mod Covered
+pub mod InOrder
+pub mod PartSpans
+pub mod FewNumbers
+pub mod Building
+pub mod UnusedNumbers
+pub mod OnePage
+pub mod MapStep
+pub mod PageCells
+pub mod ItemSteps
+pub mod Beginning
+pub mod InTurn
+pub mod TrimmedBytes
+pub mod OneList
+pub mod SavedItems
+pub mod Entering
+pub mod Restored
