@@ -26,7 +26,7 @@ fn span_pages(level: u8) -> u64
 }
 
 /// What a cell that is no link says of a page, by its place among those below the cell's entry.
-fn cell_status(cell: &Cell, offset: u64) -> Option<Status>
+pub fn cell_status(cell: &Cell, offset: u64) -> Option<Status>
     ensures { Says cell.now offset result }
 {
     match cell {

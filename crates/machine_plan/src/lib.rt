@@ -5,7 +5,7 @@ mod asking;
 mod kit;
 mod laws;
 
-pub use asking::query;
+pub use asking::{cell_status, query};
 pub use kit::{Change, Kit, Piece, Want};
 pub use laws::{
     a_book_has_a_state_that_steps_reach, a_book_has_the_levels_of_its_limits,

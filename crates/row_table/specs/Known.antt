@@ -1,4 +1,5 @@
 -- What a pass knows of rows by what it stands on and holds.
+--     AreWhole      each held row has 512 entry words
 --     LinksRow      a held row has an entry that links the row
 --     IsKnownPlace, IsKnownGeneration      where a row is and what generation it has, as far as the pass knows
 --     IsHolder, IsAnother, IsLoose      which pass holds a row, another pass, and a row that nobody may take
@@ -61,6 +62,9 @@ module _ {R B E : Type 0} where
     pub hand : map hand_part v.hand ≡ granted_rows v.core
     pub parity : v.epoch % 2 ≡ inside_now v.core.stand
     pub bounded : v.epoch ≤ 2 ^ 62
+
+  abbrev pub AreWhole : PassView R B E → Type 0
+  AreWhole v = (h : HeldRow R) → Contains v.rows h → length h.words ≡ 512
 
   pub record LinksRow (v : PassView R B E) (row : ℕ) : Type 0 where
     pub linker : HeldRow R

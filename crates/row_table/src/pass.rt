@@ -169,6 +169,7 @@ impl<P: Plan> Pass<P> {
 #[tactic(auto, unfolding(crate::specs::Passes::model_of, crate::specs::Passes::iron_model))]
 impl<P: Plan> Pass<P> {
     ghost use Rattle.row_table.specs.Passes.{view_of, number_of, kit_of, table_of};
+    ghost use Rattle.row_table.specs.Known.{AreWhole};
 
     /// The pass's place among those of its table.
     pub fn number(&self) -> u8
@@ -176,6 +177,11 @@ impl<P: Plan> Pass<P> {
     {
         self.number
     }
+
+    /// Each row that the pass holds has 512 entry words.
+    pub fn has_whole_rows(&self)
+        ensures { AreWhole (view_of self.now) }
+    {}
 
     /// Takes the kit out.
     pub fn take_kit(&mut self) -> P::Kit
