@@ -3,6 +3,8 @@ ghost use Rattle.std.specs.Prelude.{◌≡◌, ◌≢◌, IfSome, IfNone};
 ghost use Rattle.history_lines.specs.declared.reply_names.ReplyName.{ReplyName};
 ghost use Rattle.history_lines.specs.ReplyNames.{name_word};
 
+use text_words::same_word;
+
 /// The first word of a reply.
 #[derive(Clone, Copy)]
 pub(crate) enum ReplyName {
@@ -83,7 +85,7 @@ pub(crate) fn reply_name(word: &[u8]) -> Option<ReplyName>
     ensures none { IfNone result ((name : ReplyName) → word.now ≢ name_word name) }
 {
     for name in NAMES.as_slice() {
-        if word == word_of(*name) {
+        if same_word(word, word_of(*name)) {
             return Some(*name);
         }
     }

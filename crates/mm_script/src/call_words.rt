@@ -8,14 +8,14 @@ ghost use Rattle.mm_script.specs.CallLine.{place_words, backing_words, access_wo
 
 use corten_base::{Backing, ByteList, MapPlace, PAGE_BYTES, Perm, SpaceId};
 use std::alloc::{AllocError, Global};
-use text_words::{Words, read_address, read_hex, read_number, read_perm};
+use text_words::{Words, read_address, read_hex, read_number, read_perm, same_word};
 
 /// The next word, where it is this one.
 pub fn next_name(words: &mut Words<'_>, name: &[u8]) -> Option<()>
     ensures found { OnSome result (words.old ≡ name.now ∷ words.new) }
     ensures none { IfNone result ((rest : List (List ℕ)) → words.old ≢ name.now ∷ rest) }
 {
-    (words.next_word()? == name).then_some(())
+    same_word(words.next_word()?, name).then_some(())
 }
 
 /// The number that the next word spells.

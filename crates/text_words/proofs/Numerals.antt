@@ -3,7 +3,8 @@ use Rattle.std.proofs.Common.{◌≡◌, ◌≢◌, ℕ, zero, suc, ◌+◌, ◌
 use Rattle.std.specs.Fmt.{digits, digits_onto, digit_glyph}
 use Rattle.std.specs.List.{All}
 use Rattle.std.specs.Int.Digits.{digits_of, number_from_digits, number_from_digits_after}
-use Rattle.std.proofs.Math.Nat.{div-lt_iff_lt-mul, pow-zero, pow-suc, pow-le-pow_left}
+use Rattle.std.proofs.Math.Nat.{div-lt_iff_lt-mul, mul-le-mul_left, pow-zero, pow-suc, pow-le-pow_left, pow-le-pow_right}
+use Rattle.std.proofs.lemmas.Grind.{pow_more}
 use Rattle.std.proofs.lemmas.Bool.{cases_eq}
 use Rattle.std.proofs.lemmas.Bool.Decides.{nat_tests}
 use Rattle.std.proofs.lemmas.Nat.{div-mul-add, mod-mul-add}
@@ -87,6 +88,10 @@ digits-digits_of base n two pos small = digits_is_onto base n ∙ onto_is 64 bas
 
 pub digits-zero : (base : ℕ) → 2 ≤ base → digits base false 0 ≡ 48 ∷ []
 digits-zero base two = digits_is_onto base 0 ∙ onto_last 63 base 0 [] (omega arith) ∙ ap (λ d. digit_glyph false d ∷ []) {x = 0 % base} {y = 0} (omega arith)
+
+pub digits-one : (n : ℕ) → n < 10 → digits 10 false n ≡ digit_glyph false n ∷ []
+digits-one n small =
+    digits_is_onto 10 n ∙ onto_last 63 10 n [] (omega arith) ∙ ap (λ d. digit_glyph false d ∷ []) {x = n % 10} {y = n} (omega arith)
 
 -- the last k hexadecimal digits of a number, at most, before what is written; closed, so that goals show it by name
 pub digits_before : ℕ → ℕ → List ℕ → List ℕ
@@ -298,3 +303,18 @@ IsSpelled-digits base n word two small fits is =
           let v : number_from_digits base values ≡ n = numeral.value in
           omega (arith, number_of_front base values (i + 1) (omega arith));
     }
+
+-- a number of few digits with one more digit fits
+pub few_more : (n base d i : ℕ) → base ≤ 16 → d < base → n < 16 ^ i → n * base + d < 16 ^ (i + 1)
+few_more n base d i small below fits =
+    let wider : n * base ≤ n * 16 = mul-le-mul_left n small in
+    let more : 16 ^ (i + 1) ≡ 16 ^ i * 16 = pow_more 16 i in
+    omega (arith, wider, more)
+
+pub few_fit : (n i : ℕ) → i ≤ 16 → n < 16 ^ i → n < 2 ^ 64
+few_fit n i few fits =
+    let most : 16 ^ i ≤ 16 ^ 16 = pow-le-pow_right (omega arith) few in
+    omega (arith, most)
+
+pub few_more_fit : (n base d i : ℕ) → base ≤ 16 → d < base → i < 16 → n < 16 ^ i → n * base + d < 2 ^ 64
+few_more_fit n base d i small below few fits = few_fit (n * base + d) (i + 1) (omega arith) (few_more n base d i small below fits)

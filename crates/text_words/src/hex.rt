@@ -94,14 +94,37 @@ fn value_of(digit: u8) -> u8
     (digit % 16 + 9 * (digit / 64)) % 16
 }
 
-/// The bytes whose digits the pairs are.
-fn bytes_of(alloc: Global, pairs: &[[u8; 2]]) -> Result<Vec<u8>, AllocError>
+/// The bytes whose digits a few pairs are, one after the other.
+fn bytes_of_few(alloc: Global, pairs: &[[u8; 2]]) -> Result<Vec<u8>, AllocError>
+    ensures { IfOk result (λ bytes. bytes.items ≡ map definitions.pair_value pairs.now) }
+{
+    let mut bytes = Vec::new(alloc);
+    bytes.reserve(pairs.len())?;
+    for pair in pairs {
+        bytes.push(16 * value_of(pair[0]) + value_of(pair[1]))?;
+    }
+    Ok(bytes)
+}
+
+/// The bytes whose digits many pairs are. The compiler makes many of them at once.
+fn bytes_of_many(alloc: Global, pairs: &[[u8; 2]]) -> Result<Vec<u8>, AllocError>
     ensures { IfOk result (λ bytes. bytes.items ≡ map definitions.pair_value pairs.now) }
 {
     pairs
         .iter()
         .map(|pair| 16 * value_of(pair[0]) + value_of(pair[1]))
         .collect(alloc)
+}
+
+/// The bytes whose digits the pairs are.
+fn bytes_of(alloc: Global, pairs: &[[u8; 2]]) -> Result<Vec<u8>, AllocError>
+    ensures { IfOk result (λ bytes. bytes.items ≡ map definitions.pair_value pairs.now) }
+{
+    if pairs.len() < MANY {
+        bytes_of_few(alloc, pairs)
+    } else {
+        bytes_of_many(alloc, pairs)
+    }
 }
 
 /// Reads bytes, whose digits are the whole word.

@@ -11,6 +11,7 @@ mod lines;
 mod number;
 mod perm;
 mod printing;
+mod same;
 mod words;
 
 pub use address::{push_address, read_address};
@@ -24,4 +25,5 @@ pub use lines::Lines;
 pub use number::{push_number, read_number};
 pub use perm::{push_perm, read_perm};
 pub use printing::{Word, push_words};
+pub use same::same_word;
 pub use words::Words;

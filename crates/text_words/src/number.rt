@@ -2,7 +2,7 @@
 ghost use Rattle.std.specs.Prelude.{◌≡◌, ◌≢◌, ℕ, ◌<◌, ◌^◌, ◌++◌, IfSome, IfNone, OnOk, OnErr};
 ghost use Rattle.text_words.specs.Spelling.{number};
 
-use crate::digits::read_digits;
+use crate::digits::{digit, read_digits};
 use itoa::Buffer;
 use std::alloc::AllocError;
 
@@ -11,6 +11,10 @@ pub fn push_number(out: &mut Vec<u8>, value: u64) -> Result<(), AllocError>
     ensures ok { OnOk result (out.new.items ≡ out.old.items ++ number value) }
     ensures err { OnErr result (out.new.items ≡ out.old.items) }
 {
+    if value < 10 {
+        out.push(digit(value as u8))?;
+        return Ok(());
+    }
     out.extend_from_slice(Buffer::new().format(value).as_bytes())
 }
 

@@ -3,7 +3,8 @@ ghost use Rattle.std.specs.Prelude.{◌≡◌, ◌≢◌, ℕ, List, [], ◌∷�
 ghost use Rattle.std.specs.Bool.{OnTrue, OnFalse};
 ghost use Rattle.text_words.specs.Layout.{words_of};
 
-use crate::cut::cut_at;
+use crate::cut::cut_word;
+use crate::same::same_word;
 use std::marker::Model;
 
 /// The words of a line that are left, from left to right: what stands between its spaces and its ends.
@@ -42,7 +43,7 @@ impl<'a> Words<'a> {
         if self.done {
             return None;
         }
-        match cut_at(self.rest, b' ') {
+        match cut_word(self.rest) {
             Some((word, rest)) => {
                 self.rest = rest;
                 Some(word)
@@ -63,7 +64,7 @@ impl<'a> Words<'a> {
         let rest = self.rest;
         let done = self.done;
         if let Some(next) = self.next_word()
-            && next == word
+            && same_word(next, word)
         {
             return true;
         }

@@ -1,16 +1,15 @@
 -- The names before the place where the loop stands were tried, and each name stands at a place of the table.
 use Rattle.std.proofs.Common.{◌≡◌, ◌≢◌, ℕ, ◌+◌, ◌<◌, ◌≤◌, ltb, true, List, length, get_or, refl, sym, ap, ◌∙◌, subst, ⊎_elim, arith, false}
-use Rattle.std.specs.Str.{bytes_eq}
+use Rattle.std.specs.Prelude.{◌↔◌, IsTrue}
 use Rattle.std.proofs.lemmas.Bool.{false≢true, ltb-true, cases_lt}
-use Rattle.std.proofs.lemmas.Slice.Eq.{bytes_eq-Decides}
 use Rattle.history_lines.specs.declared.reply_names.ReplyName.{ReplyName}
 use Rattle.history_lines.specs.declared.reply_names.ReplyName.TheVariants as name
 use Rattle.history_lines.specs.declared.reply_names.TheConstants.{NAMES}
 use Rattle.history_lines.specs.ReplyNames.{name_word}
 use Rattle.history_lines.proofs.reply_names.reply_name.Goals as goal
 
-differs : (word tested other : List ℕ) → false ≡ bytes_eq word tested → tested ≡ other → word ≢ other
-differs word tested other apart same are = false≢true (apart ∙ (bytes_eq-Decides word tested).1 (are ∙ sym same))
+differs : (word tested other : List ℕ) → (IsTrue false ↔ (word ≡ tested)) → tested ≡ other → word ≢ other
+differs word tested other apart same are = false≢true (apart.1 (are ∙ sym same))
 
 abbrev named : List ReplyName → ℕ → List ℕ
 named names k = name_word (get_or names k name.Ok)
@@ -26,7 +25,7 @@ pub loop-name-preserved : goal.loop-name-preserved
 loop-name-preserved c =
     let index : ℕ = c.loop-name.name-index in
     let is : c.word_of.result.now ≡ named NAMES index = cc (c.word_of.ensures, c.as_slice-name-items.ensures) in
-    one_more c.args.word.now NAMES index c.loop-name.invariant (differs c.args.word.now c.word_of.result.now (named NAMES index) c.if-eq.ensures is)
+    one_more c.args.word.now NAMES index c.loop-name.invariant (differs c.args.word.now c.word_of.result.now (named NAMES index) c.if-same_word.ensures is)
 
 pub returns-clause-none : goal.returns-clause-none
 returns-clause-none c = go
