@@ -119,6 +119,14 @@ impl PageBuf {
         })
     }
 
+    /// These bytes. It takes no memory.
+    pub fn from_vec(bytes: Vec<u8>) -> PageBuf
+        requires { vec_len bytes ≡ 4096 }
+        ensures { result ≡ bytes.items }
+    {
+        PageBuf { bytes }
+    }
+
     /// A page with the same bytes.
     pub fn copy(&self, alloc: Global) -> Result<PageBuf, AllocError>
         ensures { IfOk result (λ page. page ≡ self.now) }

@@ -84,7 +84,13 @@ impl Plain {
 
     /// Makes an access that nothing refuses. The page tables come first, and go again where memory
     /// is wanted.
-    fn reach(&mut self, space: u8, claim: Claim, stored: &[u8]) -> Result<(), AllocError>
+    fn reach(
+        &mut self,
+        alloc: Global,
+        space: u8,
+        claim: Claim,
+        stored: &[u8],
+    ) -> Result<(), AllocError>
         requires ready { (limbo : ℕ) × IsReady self.old space limbo claim.plan claim.missing.items }
         requires stored { 0 < length stored.now → length stored.now ≡ claim.plan.access.len }
         requires call { IsAsked self.old space (making claim.plan.access stored.now) }
@@ -95,9 +101,10 @@ impl Plain {
         ensures err { OnErr result (self.new ≡ self.old) }
     {
         let Claim { plan, missing } = claim;
+        self.spares.refill(alloc)?;
         let cells = self.spaces.get_mut(space).unwrap();
         self.tables.insert_all(&missing)?;
-        match plan.make(cells, &mut self.counts, stored) {
+        match plan.make(cells, &mut self.counts, &mut self.spares, stored) {
             Ok(()) => Ok(()),
             Err(wanting) => {
                 self.tables.remove_all(&missing);
@@ -134,7 +141,7 @@ impl Plain {
     {
         let access = Access::new(self.limits.levels, at, len, write)?;
         let claim = self.claim(alloc, space, access, limbo)?;
-        self.reach(space, claim, stored)?;
+        self.reach(alloc, space, claim, stored)?;
         Ok(access)
     }
 

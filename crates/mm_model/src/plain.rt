@@ -10,7 +10,7 @@ ghost use Rattle.page_map.specs.State.{IsWithinLimits, start, linked, accounts};
 use corten_base::{Accounts, Limits, SpaceId, Status};
 use file_shelf::Shelf;
 use plain_counts::{Counts, Fronts, Tables};
-use plain_spaces::Spaces;
+use plain_spaces::{Spaces, Spares};
 use space_cells::AddressSpace;
 use std::alloc::{AllocError, Global};
 use std::marker::Model;
@@ -31,6 +31,8 @@ pub struct Plain {
     pub(crate) counts: Counts,
     // How many pages from the beginning of each arena are known to be full, so that no search for a gap goes over them.
     pub(crate) fronts: Fronts,
+    // What a store takes before it changes anything.
+    pub(crate) spares: Spares,
 }
 
 impl Model for Plain {
@@ -89,6 +91,7 @@ impl Plain {
             shelf,
             counts: Counts::new(alloc, limits.frames, limits.swap)?,
             fronts: Fronts::new(alloc)?,
+            spares: Spares::new(),
         })
     }
 

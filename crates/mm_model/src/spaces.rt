@@ -154,7 +154,7 @@ impl Plain {
             Ok(tables) => tables,
             Err(stop) => return refusal(stop),
         };
-        let cells = parent.copy(alloc)?;
+        let cells = parent.copy()?;
         self.make(new, cells, &tables)
     }
 

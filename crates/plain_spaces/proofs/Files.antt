@@ -41,6 +41,11 @@ bytes_are files file index part e =
     swap : index * 4096 ≡ 4096 * index
     swap = omega arith
 
+-- as many bytes as a page has
+pub whole_page : (part : List ℕ) → length part ≡ 4096 → part ≡ bytes_after_write zeros 0 part
+whole_page part whole =
+    sym (ap (λ r. part ++ r) (drop_all (0 + length part) zeros (omega (arith, whole, length_zeros))) ∙ append-nil part)
+
 -- past the end of the file, or where there is no file
 pub zeros_are : (files : List (List ℕ)) (file index : ℕ) → length (file_bytes files file) ≤ index * 4096 → zeros ≡ file_page files file index
 zeros_are files file index h =

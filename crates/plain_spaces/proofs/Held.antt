@@ -1,5 +1,5 @@
 -- The next page of a range that has a frame or a slot.
-use Rattle.std.proofs.Common.{◌≡◌, ℕ, zero, suc, ◌+◌, ◌-◌, ◌<◌, ◌≤◌, false, refl, sym, ap, ◌∙◌, arith}
+use Rattle.std.proofs.Common.{◌≡◌, ℕ, zero, suc, ◌+◌, ◌-◌, ◌^◌, ◌<◌, ◌≤◌, false, List, ◌∷◌, refl, sym, ap, ◌∙◌, arith}
 use mathlib.Core.Logic.{inl, inr}
 use Rattle.std.specs.Prelude.{Option, Some, None, IfSome}
 use Rattle.std.specs.Option.{option_map, option_map_or, option_and_then}
@@ -14,6 +14,9 @@ use Rattle.page_map.proofs.Steps.{not_none}
 use Rattle.plain_counts.specs.declared.counts.Counts.{Counts}
 use Rattle.space_cells.specs.declared.held.Number.{Number}
 use Rattle.space_cells.specs.Cells.{number_of, number_at, numbered_page}
+use Rattle.space_cells.specs.Walking.{IsWalk}
+use Rattle.space_cells.proofs.Walking.{walk_from, walk_there, walk_before}
+use Rattle.plain_spaces.specs.Copies.{AreLow}
 use Rattle.plain_spaces.specs.declared.swap.Move.{Move}
 use Rattle.plain_spaces.specs.Swapping.{moves, passes}
 
@@ -93,3 +96,15 @@ cell_at cells page number there = go (get cells page) refl there
     go : (o : Option Cell) → get cells page ≡ o → option_and_then number_of o ≡ Some number → (cell : Cell) × ((get cells page ≡ Some cell) × (number_of cell ≡ Some number))
     go None here e = absurd (not_none (sym e))
     go (Some cell) here e = (cell, (here, e))
+
+-- the next page of a walk over all pages
+pub walked : (cells : AddressSpace) → AreLow cells → (next page : ℕ) (number : Number) (rest : List (ℕ × Number)) → IsWalk cells next ((page, number) ∷ rest) → IsNextHeld cells next (2 ^ 44) page number
+walked cells low next page number rest walk =
+    let there = walk_there cells next page number rest walk in
+    let here = cell_at cells page number there in
+    record {
+      low = walk_from cells next page number rest walk;
+      high = low page here.0 here.1.0;
+      there = there;
+      before = walk_before cells next page number rest walk;
+    }

@@ -6,3 +6,4 @@ pub mod Swapping
 pub mod Copies
 pub mod Resizing
 pub mod Pieces
+pub mod Spares

@@ -5,8 +5,10 @@ ghost use Rattle.page_map.specs.Access.{first_page, outside_user_pages, loaded};
 ghost use Rattle.plain_counts.specs.Cut.{HaveParents};
 ghost use Rattle.plain_counts.specs.Levels.{Lists};
 ghost use Rattle.plain_spaces.specs.Reach.{reaching, last_page, lacked, after_write, IsUserAccess, IsResident};
+ghost use Rattle.plain_spaces.specs.Spares.{AreThere};
 ghost use Rattle.plain_spaces.specs.Wants.{StopsFor};
 
+use crate::spares::Spares;
 use corten_base::{ByteList, PAGE_BYTES, Reply};
 use plain_counts::{Pages, Tables};
 use space_cells::AddressSpace;
@@ -154,16 +156,17 @@ impl From<AllocError> for Stop {
     }
 }
 
-/// Writes the bytes of an access to those of its pages that have frames.
-pub(crate) fn write(cells: &mut AddressSpace, access: Access, bytes: &[u8])
-    requires { length bytes.now ≡ access.len }
+/// Writes the bytes of an access to those of its pages that have frames. It may take the spare buffers.
+pub(crate) fn write(cells: &mut AddressSpace, access: Access, bytes: &[u8], spares: &mut Spares)
+    requires len { length bytes.now ≡ access.len }
+    requires spares { AreThere spares.old }
     ensures { cells.new ≡ after_write access bytes.now cells.old }
 {
     let start = access.start();
     let (near, far) = bytes.split_at(bytes.len().min(PAGE_BYTES - start as usize));
-    cells.write_at(access.first(), start, near);
+    cells.write_at(access.first(), start, near, &mut spares.near);
     if !far.is_empty() {
-        cells.write_at(access.last(), 0, far);
+        cells.write_at(access.last(), 0, far, &mut spares.far);
     }
 }
 

@@ -4,11 +4,13 @@ ghost use Rattle.std.specs.FinMap as map;
 ghost use Rattle.plain_counts.specs.Counts.{AreCounted, Follow};
 ghost use Rattle.plain_spaces.specs.Numbers.{IsCarried, Keeps, LeavesAny};
 ghost use Rattle.plain_spaces.specs.Reach.{HasFrames};
+ghost use Rattle.plain_spaces.specs.Spares.{AreThere};
 ghost use Rattle.plain_spaces.specs.Wants.{from_of, in_frame, laid, Brings, IsSomePlan, Made};
 
 use crate::access::write;
 use crate::numbers::{give_back, give_up, take_frame};
 use crate::plan::{Plan, Want};
+use crate::spares::Spares;
 use plain_counts::Counts;
 use space_cells::{AddressSpace, HeldPage, Number};
 use std::alloc::AllocError;
@@ -110,17 +112,20 @@ impl Plan {
         }
     }
 
-    /// Makes the access: each page gets the frame that it wants, and bytes are stored, if there are some.
+    /// Makes the access: each page gets the frame that it wants, and bytes are stored, if there are some. It may take the
+    /// spare buffers.
     pub fn make(
         self,
         cells: &mut AddressSpace,
         counts: &mut Counts,
+        spares: &mut Spares,
         stored: &[u8],
     ) -> Result<(), AllocError>
         requires planned { IsSomePlan cells.old (slice_index counts.old.frames) self }
         requires enough { HasFrames counts.old cells.old self.access }
         requires stored { 0 < length stored.now → length stored.now ≡ self.access.len }
         requires counted { AreCounted counts.old cells.old }
+        requires spares { AreThere spares.old }
         ensures made { OnOk result
             (Made counts.old counts.new cells.old cells.new stored.now self) }
         ensures kept { OnErr result (Keeps cells.old cells.new counts.old counts.new) }
@@ -130,7 +135,7 @@ impl Plan {
         if stored.is_empty() {
             return Ok(());
         }
-        write(cells, access, stored);
+        write(cells, access, stored, spares);
         Ok(())
     }
 }

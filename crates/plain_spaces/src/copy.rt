@@ -12,9 +12,6 @@ use space_cells::AddressSpace;
 use std::alloc::{AllocError, Global};
 use table_place::Place;
 
-/// The number of a page that stands after all user pages.
-const END: u64 = 1 << 44;
-
 /// Gives each number to as many keys more as carry it in a space.
 pub fn share(cells: &AddressSpace, counts: &mut Counts)
     requires low { AreLow cells.now }
@@ -22,10 +19,9 @@ pub fn share(cells: &AddressSpace, counts: &mut Counts)
     requires room { AreRoomy counts.old cells.now }
     ensures { JoinAll counts.old counts.new cells.now }
 {
-    let mut next = 0;
-    while let Some((page, number)) = cells.next_held(next, END) {
+    let mut walk = cells.held_pages();
+    while let Some((_page, number)) = walk.next() {
         share_number(counts, number);
-        next = page + 1;
     }
 }
 
@@ -35,10 +31,9 @@ pub fn leave(cells: &AddressSpace, counts: &mut Counts)
     requires counted { AreCounted counts.old cells.now }
     ensures { Follow counts.old counts.new cells.now empty }
 {
-    let mut next = 0;
-    while let Some((page, number)) = cells.next_held(next, END) {
+    let mut walk = cells.held_pages();
+    while let Some((_page, number)) = walk.next() {
         give_up(counts, number);
-        next = page + 1;
     }
 }
 

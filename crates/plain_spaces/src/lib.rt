@@ -11,6 +11,7 @@ mod pieces;
 mod plan;
 mod resizing;
 mod spaces;
+mod spares;
 mod swap;
 
 pub use access::{Access, Stop, read};
@@ -19,4 +20,5 @@ pub use mapping::{apply, give_back_pages, map_pages, unmap_pages};
 pub use plan::{Plan, Want};
 pub use resizing::{Placing, Resize, remap_pages};
 pub use spaces::Spaces;
+pub use spares::Spares;
 pub use swap::Move;

@@ -1,5 +1,6 @@
 //! What the pages of an access want before it is made, and whether they refuse it.
 ghost use Rattle.std.specs.Prelude.{◌≡◌, ℕ, ◌+◌, ◌<◌, ◌≤◌, ◌^◌, cond, length, slice_index, IfOk, IfErr, IfSome, None};
+ghost use Rattle.corten_base.specs.Bytes.{bytes_after_write};
 ghost use Rattle.page_map.specs.Cell.{can_read, can_write, contents, frame_of, file_page};
 ghost use Rattle.page_map.specs.Cell.{zeros as page_zeros};
 ghost use Rattle.page_map.specs.Access.{refused_access};
@@ -10,10 +11,10 @@ ghost use Rattle.plain_spaces.specs.Reach.{wants};
 ghost use Rattle.plain_spaces.specs.Wants.{backing_bytes, lies_past, refusal_at, refusal_beyond, IsNeed, IsPlan, IsWant, StopsFor, WantsAt, WantsBeyond};
 
 use crate::access::{Access, Stop};
-use corten_base::{Backing, PageBuf, Perm, Reply};
+use corten_base::{Backing, PAGE_BYTES, PageBuf, Perm, Reply};
 use file_shelf::{FilePage, Shelf};
 use plain_counts::Owners;
-use space_cells::{AddressSpace, Number, PageView};
+use space_cells::{AddressSpace, Number, PageBytes, PageView};
 use std::alloc::{AllocError, Global};
 
 /// What a page gets before an access is made to it, where it wants a frame.
@@ -22,7 +23,7 @@ pub struct Want {
     // The frame or slot that it leaves.
     pub(crate) from: Option<Number>,
     // The bytes that it has on its frame.
-    pub(crate) body: PageBuf,
+    pub(crate) body: PageBytes,
 }
 
 /// What the pages of an access want.
@@ -53,18 +54,26 @@ fn is_beyond(shelf: &Shelf, backing: Backing) -> bool
     }
 }
 
-/// The bytes of a file's page, written at the beginning of a page of zeros.
-fn file_body(shelf: &Shelf, file: u8, index: u64, zeros: PageBuf) -> PageBuf
-    requires { zeros ≡ page_zeros }
-    ensures { result ≡ file_page shelf.now file index }
+/// A page that begins with these bytes, with zeros behind them.
+fn page_of(alloc: Global, bytes: &[u8]) -> Result<PageBuf, AllocError>
+    requires { length bytes.now ≤ 4096 }
+    ensures { IfOk result (λ body. body ≡ bytes_after_write page_zeros 0 bytes.now) }
+{
+    if bytes.len() == PAGE_BYTES {
+        return Ok(PageBuf::from_vec(Vec::from_slice(alloc, bytes)?));
+    }
+    let mut body = PageBuf::zero(alloc)?;
+    body.write_at(0, bytes);
+    Ok(body)
+}
+
+/// The bytes of a file's page.
+fn file_body(alloc: Global, shelf: &Shelf, file: u8, index: u64) -> Result<PageBuf, AllocError>
+    ensures { IfOk result (λ body. body ≡ file_page shelf.now file index) }
 {
     match shelf.page(file, index) {
-        FilePage::Bytes(bytes) => {
-            let mut body = zeros;
-            body.write_at(0, bytes);
-            body
-        }
-        FilePage::NoFile | FilePage::PastEnd => zeros,
+        FilePage::Bytes(bytes) => page_of(alloc, bytes),
+        FilePage::NoFile | FilePage::PastEnd => PageBuf::zero(alloc),
     }
 }
 
@@ -72,10 +81,9 @@ fn file_body(shelf: &Shelf, file: u8, index: u64, zeros: PageBuf) -> PageBuf
 fn backing_body(alloc: Global, shelf: &Shelf, backing: Backing) -> Result<PageBuf, AllocError>
     ensures { IfOk result (λ body. body ≡ backing_bytes shelf.now backing) }
 {
-    let zeros = PageBuf::zero(alloc)?;
     match backing {
-        Backing::Zero => Ok(zeros),
-        Backing::File { file, index } => Ok(file_body(shelf, file, index, zeros)),
+        Backing::Zero => PageBuf::zero(alloc),
+        Backing::File { file, index } => file_body(alloc, shelf, file, index),
     }
 }
 
@@ -106,7 +114,7 @@ fn body_of(alloc: Global, shelf: &Shelf, view: PageView<'_>) -> Result<PageBuf, 
     ensures { IfOk result (λ body. body ≡ contents shelf.now (seen view.entry)) }
 {
     match view.held {
-        Some(held) => held.bytes.copy(alloc),
+        Some(held) => held.bytes.to_page(alloc),
         None => backing_body(alloc, shelf, view.mark.backing),
     }
 }
@@ -125,9 +133,10 @@ fn want_of(
     if !is_wanting(frames, write, view) {
         return Ok(None);
     }
+    let body = body_of(alloc, shelf, view)?;
     Ok(Some(Want {
         from: number_in(view),
-        body: body_of(alloc, shelf, view)?,
+        body: PageBytes::of(alloc, body)?,
     }))
 }
 

@@ -7,3 +7,4 @@ pub mod Moved
 pub mod Copying
 pub mod Stretching
 pub mod LongestRuns
+pub mod Walking

@@ -1,20 +1,14 @@
 -- Going over the held pages of a range, one by one.
 --     next_given, none_given, first_number, no_numbers      the numbers from the next held page on;  where no page is held
 --     nothing_cleared, one_more, all_cleared      pages that are let go of
---     one_copied, all_copied      pages that are copied
 use Rattle.std.proofs.Common.{◌≡◌, ℕ, zero, suc, ◌+◌, ◌-◌, ◌<◌, ◌≤◌, Bool, true, false, cond, List, [], ◌∷◌, ◌++◌, append_assoc, refl, sym, ap, ◌∙◌, arith}
 use mathlib.Core.Logic.{inl, inr}
 use Rattle.std.specs.Prelude.{Option, Some, None}
-use Rattle.std.specs.Option.{option_map, option_or}
+use Rattle.std.specs.Option.{option_map}
 use Rattle.std.specs.List.{cons_option, filter_map, range_with_len}
-use Rattle.std.specs.Map.{lookup}
-use Rattle.std.specs.Ordering.{nat_cmp}
-use Rattle.std.specs.Cmp.{unsigned_tied}
-use Rattle.std.specs.BTreeMap.{is_at}
-use Rattle.std.proofs.lemmas.Bool.{cases_eq, cases_lt, eq-eqb, ne_eqb}
+use Rattle.std.proofs.lemmas.Bool.{cases_eq, cases_lt}
 use Rattle.std.proofs.lemmas.List.{append-nil}
 use Rattle.space_cells.specs.declared.held.Number.{Number}
-use Rattle.space_cells.specs.declared.held.HeldPage.{HeldPage}
 use Rattle.space_cells.specs.Held.{HeldPages, held_at, number_held, numbers_held, Clears, IsFirstHeld, Sets}
 
 module _ {B : Type 0} (h : ℕ → Option B) where
@@ -104,27 +98,3 @@ module _ (first next end : ℕ) (low : first ≤ next) (old now : HeldPages) (so
     ];
     above = λ q more. so_far.above q (omega (arith, more, room));
   }
-
--- the pages that are copied, and those that are left
-abbrev pub AreCopied : HeldPages → List (ℕ × HeldPage) → HeldPages → Type 0
-AreCopied copy rest pages = (q : ℕ) → option_or (held_at copy q) (lookup (is_at (nat_cmp q)) rest) ≡ held_at pages q
-
-module _ (pages copy : HeldPages) where
-  pub one_copied : (page : ℕ) (held : HeldPage) (rest : List (ℕ × HeldPage)) (copy' : HeldPages) → AreCopied copy ((page, held) ∷ rest) pages → held_at pages page ≡ Some held →
-      ((q : ℕ) → held_at copy' q ≡ cond (is_at (nat_cmp page) q) (Some held) (held_at copy q)) → AreCopied copy' rest pages
-  one_copied page held rest copy' so_far there puts q = elim (cases_eq q page) [
-    | inl same ↦
-        ap (λ o. option_or o (lookup (is_at (nat_cmp q)) rest)) (puts q ∙ ap (λ b. cond b (Some held) (held_at copy q)) (unsigned_tied page q ∙ eq-eqb page q (sym same)))
-        ∙ sym there ∙ ap (held_at pages) (sym same)
-    | inr other ↦
-        ap (λ o. option_or o (lookup (is_at (nat_cmp q)) rest)) (puts q ∙ ap (λ b. cond b (Some held) (held_at copy q)) (unsigned_tied page q ∙ ne_eqb page q (λ same. other (sym same))))
-        ∙ ap (λ b. option_or (held_at copy q) (cond b (Some held) (lookup (is_at (nat_cmp q)) rest))) (sym (unsigned_tied q page ∙ ne_eqb q page other))
-        ∙ so_far q
-  ]
-
-  pub all_copied : (rest : List (ℕ × HeldPage)) → rest ≡ [] → AreCopied copy rest pages → (q : ℕ) → held_at copy q ≡ held_at pages q
-  all_copied rest none so_far q = go (held_at copy q) ∙ ap (λ l. option_or (held_at copy q) (lookup (is_at (nat_cmp q)) l)) (sym none) ∙ so_far q
-    where
-      go : (o : Option HeldPage) → o ≡ option_or o None
-      go None = refl
-      go (Some held) = refl

@@ -4,3 +4,5 @@ pub mod Views
 pub mod Changes
 pub mod Moving
 pub mod Longest
+pub mod Buffers
+pub mod Walking

@@ -5,7 +5,7 @@ ghost use Rattle.table_place.specs.Range.{within};
 ghost use Rattle.space_cells.specs.Moving.{ArePlaced};
 ghost use Rattle.space_cells.specs.Held.{held_at, numbers_held, Alters, AreSameOutside, Clears, HoldNone, IsFirstHeld, Sets, SetsBoth};
 
-use corten_base::PageBuf;
+use crate::bytes::{OwnPage, PageBytes};
 use std::alloc::{AllocError, Global};
 use std::collections::BTreeMap;
 
@@ -24,23 +24,24 @@ pub struct HeldPage {
     /// The number of the frame or the slot.
     pub number: Number,
     /// The page's bytes.
-    pub bytes: PageBuf,
+    pub bytes: PageBytes,
 }
 
 /// The pages that have frames or slots.
 pub(crate) type HeldPages = BTreeMap<u64, HeldPage>;
 
-impl HeldPage {
-    /// The same page, with bytes of its own.
-    fn copy(&self, alloc: Global) -> Result<HeldPage, AllocError>
-        ensures { IfOk result (λ copy. copy ≡ self.now) }
-    {
+impl Clone for HeldPage {
+    ghost is_clone = { λ a b. b ≡ a };
+
+    fn clone(&self) -> Result<HeldPage, AllocError> {
         Ok(HeldPage {
             number: self.number,
-            bytes: self.bytes.copy(alloc)?,
+            bytes: self.bytes.clone()?,
         })
     }
+}
 
+impl HeldPage {
     /// The bytes of a page that has a frame, and none of one that has a slot.
     pub(crate) fn frame_bytes(&self) -> &[u8]
         ensures { result.now ≡ framed self.now.number self.now.bytes }
@@ -52,12 +53,13 @@ impl HeldPage {
     }
 
     /// Writes bytes over those of a page that has a frame, from a place on.
-    fn write_at(&mut self, place: u32, bytes: &[u8])
-        requires { place + length bytes.now ≤ 4096 }
+    fn write_at(&mut self, place: u32, bytes: &[u8], spare: &mut Option<OwnPage>)
+        requires fits { place + length bytes.now ≤ 4096 }
+        requires spare { IsSome spare.old }
         ensures { self.new ≡ overwritten_page place bytes.now self.old }
     {
         match self.number {
-            Number::Frame(_) => self.bytes.write_at(place, bytes),
+            Number::Frame(_) => self.bytes.write_at(place, bytes, spare),
             Number::Slot(_) => {}
         }
     }
@@ -151,13 +153,20 @@ pub(crate) fn renumber(pages: &mut HeldPages, page: u64, number: Number)
     }
 }
 
-/// Writes bytes over those of a page that has a frame, from a place on.
-pub(crate) fn write(pages: &mut HeldPages, page: u64, place: u32, bytes: &[u8])
-    requires { place + length bytes.now ≤ 4096 }
+/// Writes bytes over those of a page that has a frame, from a place on. It may take the spare buffer.
+pub(crate) fn write(
+    pages: &mut HeldPages,
+    page: u64,
+    place: u32,
+    bytes: &[u8],
+    spare: &mut Option<OwnPage>,
+)
+    requires fits { place + length bytes.now ≤ 4096 }
+    requires spare { IsSome spare.old }
     ensures { Alters pages.old pages.new page (overwritten_page place bytes.now) }
 {
     if let Some(held) = pages.get_mut(&page) {
-        held.write_at(place, bytes);
+        held.write_at(place, bytes, spare);
     }
 }
 
@@ -193,19 +202,18 @@ pub(crate) fn clear(pages: &mut HeldPages, first: u64, end: u64)
 }
 
 /// Holds a copy of a held page at another page.
-fn copy_page(alloc: Global, pages: &mut HeldPages, page: u64, place: u64) -> Result<(), AllocError>
+fn copy_page(pages: &mut HeldPages, page: u64, place: u64) -> Result<(), AllocError>
     requires { IsSome (held_at pages.old page) }
     ensures ok { OnOk result (Sets pages.old pages.new place (held_at pages.old page)) }
     ensures err { OnErr result ((q : ℕ) → held_at pages.new q ≡ held_at pages.old q) }
 {
-    let copy = pages.get(&page).unwrap().copy(alloc)?;
+    let copy = pages.get(&page).unwrap().clone()?;
     let _ = put(pages, place, copy)?;
     Ok(())
 }
 
 /// Holds copies of the held pages of a range at another place, where none is held.
 pub(crate) fn copy_range(
-    alloc: Global,
     pages: &mut HeldPages,
     first: u64,
     count: u64,
@@ -221,19 +229,15 @@ pub(crate) fn copy_range(
     let end = first + count;
     let mut next = first;
     while let Some((page, _)) = first_in(pages, next, end) {
-        copy_page(alloc, pages, page, to + (page - first))?;
+        copy_page(pages, page, to + (page - first))?;
         next = page + 1;
     }
     Ok(())
 }
 
-/// The same pages, each with bytes of its own.
-pub(crate) fn copy_all(alloc: Global, pages: &HeldPages) -> Result<HeldPages, AllocError>
+/// The same pages once more.
+pub(crate) fn copy_all(pages: &HeldPages) -> Result<HeldPages, AllocError>
     ensures { IfOk result (λ copy. (q : ℕ) → held_at copy q ≡ held_at pages.now q) }
 {
-    let mut copy = BTreeMap::new(alloc);
-    for (page, held) in pages.iter() {
-        copy.insert(*page, held.copy(alloc)?)?;
-    }
-    Ok(copy)
+    pages.clone()
 }

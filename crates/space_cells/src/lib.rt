@@ -3,6 +3,7 @@
 //! them cost.
 #![tactic(auto)]
 
+mod bytes;
 mod changes;
 mod held;
 mod longest;
@@ -10,8 +11,11 @@ mod moving;
 mod pages;
 mod ranges;
 mod space;
+mod walk;
 
+pub use bytes::{OwnPage, PageBytes};
 pub use held::{HeldPage, Number};
 pub use moving::Relocation;
 pub use page_runs::{Change, Effect, Mark, Run};
 pub use space::{AddressSpace, PageView};
+pub use walk::HeldWalk;

@@ -89,7 +89,6 @@ fn changes_of_move(
 /// Holds the moved pages at their new places too, and then makes the changes of marks. Where memory is wanted, the marks
 /// stay, and what is held at the new places lies over no marks.
 fn place(
-    alloc: Global,
     marks: &mut PageRuns,
     pages: &mut HeldPages,
     changes: &[Change],
@@ -103,13 +102,7 @@ fn place(
     ensures ok { OnOk result (marks.new ≡ after_changes marks.old changes.now) }
     ensures err { OnErr result (marks.new ≡ marks.old) }
 {
-    copy_range(
-        alloc,
-        pages,
-        relocation.first,
-        relocation.old,
-        relocation.to,
-    )?;
+    copy_range(pages, relocation.first, relocation.old, relocation.to)?;
     marks.apply(changes)
 }
 
@@ -123,13 +116,7 @@ impl AddressSpace {
     {
         let Relocation { first, to, .. } = relocation;
         let changes = changes_of_move(alloc, &self.marks, relocation)?;
-        match place(
-            alloc,
-            &mut self.marks,
-            &mut self.pages,
-            &changes,
-            relocation,
-        ) {
+        match place(&mut self.marks, &mut self.pages, &changes, relocation) {
             Ok(()) => {
                 clear(&mut self.pages, first, first + relocation.old);
                 Ok(())

@@ -5,6 +5,7 @@ ghost use Rattle.std.specs.FinMap as map;
 ghost use Rattle.page_map.specs.DontNeed.{given_back};
 ghost use Rattle.space_cells.specs.Cells.{changed_at, held_of, overwritten, renumbered, with_held};
 
+use crate::bytes::OwnPage;
 use crate::held::{HeldPage, Number, put, put_both, renumber, take, write};
 use crate::space::AddressSpace;
 use std::alloc::AllocError;
@@ -52,11 +53,12 @@ impl AddressSpace {
         renumber(&mut self.pages, page, number);
     }
 
-    /// Writes bytes over those of a page, from a place on, if it has a frame.
-    pub fn write_at(&mut self, page: u64, place: u32, bytes: &[u8])
-        requires { place + length bytes.now ≤ 4096 }
+    /// Writes bytes over those of a page, from a place on, if it has a frame. It may take the spare buffer.
+    pub fn write_at(&mut self, page: u64, place: u32, bytes: &[u8], spare: &mut Option<OwnPage>)
+        requires fits { place + length bytes.now ≤ 4096 }
+        requires spare { IsSome spare.old }
         ensures { self.new ≡ changed_at self.old page (overwritten place bytes.now) }
     {
-        write(&mut self.pages, page, place, bytes);
+        write(&mut self.pages, page, place, bytes, spare);
     }
 }

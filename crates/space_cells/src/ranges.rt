@@ -92,13 +92,13 @@ impl AddressSpace {
         Ok(numbers)
     }
 
-    /// The same cells once more, with bytes of their own.
-    pub fn copy(&self, alloc: Global) -> Result<AddressSpace, AllocError>
+    /// The same cells once more.
+    pub fn copy(&self) -> Result<AddressSpace, AllocError>
         ensures { IfOk result (λ copy. copy ≡ self.now) }
     {
         Ok(AddressSpace {
             marks: self.marks.copy()?,
-            pages: copy_all(alloc, &self.pages)?,
+            pages: copy_all(&self.pages)?,
         })
     }
 }

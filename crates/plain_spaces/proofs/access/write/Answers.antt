@@ -16,11 +16,11 @@ pub returns-then-not-is_empty : goal.returns-then-not-is_empty
 returns-then-not-is_empty c =
     c.write_at-then-not-is_empty.ensures
     ∙ (λ i. change (written (goal.at.returns-then-not-is_empty c).After-write_at i) (c.last.ensures.value i) 1 (λ _. option_map (overwritten 0 (c.split_at.ensures.back i))))
-    ∙ stored_two c.args.access c.first.ensures.user.some c.first.ensures.user.few c.args.bytes.now c.requires c.args.cells.now c.start-start.result c.min.result c.start-start.ensures.value c.min.ensures
+    ∙ stored_two c.args.access c.first.ensures.user.some c.first.ensures.user.few c.args.bytes.now c.requires.len c.args.cells.now c.start-start.result c.min.result c.start-start.ensures.value c.min.ensures
     (subst (λ l. 0 < length l) c.split_at.ensures.back (omega (arith, eqb-false _ 0 (sym c.if-not-is_empty.ensures))))
 
 pub returns-else-not-is_empty : goal.returns-else-not-is_empty
 returns-else-not-is_empty c =
     written (goal.at.returns-else-not-is_empty c).After-write_at
-    ∙ stored_one c.args.access c.first.ensures.user.some c.first.ensures.user.few c.args.bytes.now c.requires c.args.cells.now c.start-start.result c.min.result c.start-start.ensures.value c.min.ensures
+    ∙ stored_one c.args.access c.first.ensures.user.some c.first.ensures.user.few c.args.bytes.now c.requires.len c.args.cells.now c.start-start.result c.min.result c.start-start.ensures.value c.min.ensures
     (ap length (sym c.split_at.ensures.back) ∙ eqb-true _ 0 (sym c.if-not-is_empty.ensures))

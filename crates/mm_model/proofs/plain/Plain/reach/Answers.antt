@@ -111,9 +111,9 @@ same c cells is =
     some_borrow c.get_mut.result c.unwrap-cells.result c.unwrap-cells.ensures (c.get_mut.follows.holds cells) ∙ ap (map.insert c.self.inside.spaces c.args.space) is
     ∙ put_back c.self.inside.spaces c.args.space c.unwrap-cells.result.now (sym c.get_mut.ensures.value ∙ ap option_copied_mut c.unwrap-cells.ensures)
 
-pub invariant_of-self : goal.invariant_of-self
-invariant_of-self c =
-    let at = goal.at.invariant_of-self c in
+pub invariant_of-self-in_err-insert_all : goal.invariant_of-self-in_err-insert_all
+invariant_of-self-in_err-insert_all c =
+    let at = goal.at.invariant_of-self-in_err-insert_all c in
     let st = before at.After-get_mut in
     subst (λ (st : State). IsSound st c.self.inside.counts c.self.inside.fronts)
     (λ i. record st { spaces = sym (same at.After-unwrap-cells c.unwrap-cells.result.now refl) i; tables = sym c.in_err-insert_all.ensures.err i }) c.self.invariant
@@ -122,7 +122,7 @@ pub returns-in_err-insert_all-clause-err : goal.returns-in_err-insert_all-clause
 returns-in_err-insert_all-clause-err c =
     let at = goal.at.returns-in_err-insert_all-clause-err c in
     let st = before at.After-get_mut in
-    on_err c.from_residual.result ((λ i. record st { spaces = same at.After-unwrap-cells c.unwrap-cells.result.now refl i; tables = c.in_err-insert_all.ensures.err i }) ∙ c.self.view_is)
+    on_err c.from_residual-in_err-insert_all.result ((λ i. record st { spaces = same at.After-unwrap-cells c.unwrap-cells.result.now refl i; tables = c.in_err-insert_all.ensures.err i }) ∙ c.self.view_is)
 
 -- the page tables go again
 undone : (c : After-get_mut) (put left : Tables) (places places' : List Place) → places ≡ c.args.claim.missing.items → places' ≡ c.args.claim.missing.items →

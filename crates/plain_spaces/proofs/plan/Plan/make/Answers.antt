@@ -23,8 +23,8 @@ returns-then-is_empty-clause-made c = λ files plan whole. record {
   counts_follow = c.in_ok-bring_in.ensures.counts;
 }
 
-pub write-requires : goal.write-requires
-write-requires c = c.requires.stored (omega (arith, eqb-false _ 0 (sym c.if-is_empty.ensures)))
+pub write-requires-clause-len : goal.write-requires-clause-len
+write-requires-clause-len c = c.requires.stored (omega (arith, eqb-false _ 0 (sym c.if-is_empty.ensures)))
 
 pub returns-clause-made : goal.returns-clause-made
 returns-clause-made c = λ files plan whole.
