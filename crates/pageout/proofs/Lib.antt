@@ -1,8 +1,11 @@
 pub mod Orders
-pub mod Agreeing
+pub mod Owned
+pub mod Others
+pub mod Sole
 pub mod Nexts
 pub mod Refreshing
 pub mod LastTouches
 pub mod Works
 pub mod Stepping
+pub mod OneOwner
 pub mod Listing

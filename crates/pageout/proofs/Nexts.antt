@@ -46,13 +46,13 @@ is_none : (o : Option Mark) → (IsSome o → ⊥) → o ≡ None
 is_none None h = refl
 is_none (Some m) h = absurd (h refl)
 
-module _ (marks : Marks) (space first : ℕ) (found : List (Key × Mark)) (range : IsRangeOf key_cmp (Included (key_of space first)) Unbounded marks found) where
+module _ (marks : Marks) (space first : ℕ) (found : List (Key × Mark)) (range : IsRangeOf key_cmp (Included (key_of space first)) Unbounded marks.by_page found) where
   pub none_from : found ≡ [] → (q : ℕ) → first ≤ q → mark_at marks (key_of space q) ≡ None
   none_from e q h = range.5 e (key_of space q) (in_order space first q h, tt)
 
   module _ (key : Key) (mark : Mark) (rest : List (Key × Mark)) (is : found ≡ (key, mark) ∷ rest) where
-    at_first : IsEntryInRange key_cmp (Included (key_of space first)) Unbounded marks (key, mark)
-    at_first = subst (λ l. IfSome (slice_get l 0) (IsEntryInRange key_cmp (Included (key_of space first)) Unbounded marks)) is range.1
+    at_first : IsEntryInRange key_cmp (Included (key_of space first)) Unbounded marks.by_page (key, mark)
+    at_first = subst (λ l. IfSome (slice_get l 0) (IsEntryInRange key_cmp (Included (key_of space first)) Unbounded marks.by_page)) is range.1
 
     before_others : (q : ℕ) → first ≤ q → IsSome (mark_at marks (key_of space q)) → IsUpTo key (key_of space q)
     before_others q h some =

@@ -9,9 +9,10 @@ use Rattle.std.proofs.lemmas.Cmp.{then_total, on_total}
 use Rattle.std.proofs.lemmas.Map.Lookups.{CmpEqualImpliesEq, exact_pairs, exact_unsigned}
 use Rattle.std.proofs.lemmas.Map.Views.{tells_apart}
 use Rattle.pageout.specs.declared.marks.Key.{Key}
+use Rattle.pageout.specs.declared.marks.Owner.{Owner}
 use Rattle.pageout.specs.declared.victims.Victim.{Victim}
 use Rattle.pageout.specs.Victims.{victim_cmp}
-use Rattle.pageout.specs.Index.{key_cmp, key_of}
+use Rattle.pageout.specs.Index.{key_cmp, key_of, owner_cmp}
 
 pub key_total : IsTotalOrder key_cmp
 key_total = then_total (on_total (λ (k : Key). k.space) nat_cmp_total) (on_total (λ (k : Key). k.page) nat_cmp_total)
@@ -19,6 +20,12 @@ key_total = then_total (on_total (λ (k : Key). k.space) nat_cmp_total) (on_tota
 pub key_exact : CmpEqualImpliesEq key_cmp
 key_exact a b h =
     ap (λ (p : ℕ × ℕ). key_of p.0 p.1) (exact_pairs nat_cmp nat_cmp exact_unsigned exact_unsigned (a.space, a.page) (b.space, b.page) h)
+
+pub owner_total : IsTotalOrder owner_cmp
+owner_total = then_total (on_total (λ (o : Owner). o.frame) nat_cmp_total) (on_total (λ (o : Owner). o.key) key_total)
+
+pub owner_exact : CmpEqualImpliesEq owner_cmp
+owner_exact a b h = ap (λ (p : ℕ × Key). record { frame = p.0; key = p.1 }) (exact_pairs nat_cmp key_cmp exact_unsigned key_exact (a.frame, a.key) (b.frame, b.key) h)
 
 pub victim_total : IsTotalOrder victim_cmp
 victim_total =
@@ -41,8 +48,5 @@ key_tied a b = both_equal (nat_cmp a.space b.space) (nat_cmp a.page b.page) ∙ 
 pub same_key : (a b : Key) → eq_by_cmp key_cmp a b ≡ true → a ≡ b
 same_key = tells_apart key_exact
 
--- victims are equal where their last touches and their pages are
-pub victim_tied : (touched : ℕ) (key : Key) (v : Victim) →
-    eq_by_cmp victim_cmp (record { touched = touched; space = key.space; page = key.page }) v ≡ (nat_eq touched v.touched && eq_by_cmp key_cmp key (key_of v.space v.page))
-victim_tied touched key v =
-    both_equal (nat_cmp touched v.touched) (key_cmp key (key_of v.space v.page)) ∙ ap (λ b. b && eq_by_cmp key_cmp key (key_of v.space v.page)) (unsigned_tied touched v.touched)
+pub one_key : (a b : Key) → (nat_eq a.space b.space && nat_eq a.page b.page) ≡ true → a ≡ b
+one_key a b h = same_key a b (key_tied a b ∙ h)

@@ -12,7 +12,7 @@ use Rattle.pageout.specs.declared.marks.Mark.{Mark}
 use Rattle.pageout.specs.declared.work.Span.{Span}
 use Rattle.pageout.specs.Index.{Marks, key_cmp, key_of, mark_at, SetsMark, AreSameMarks}
 use Rattle.pageout.specs.Work.{in_span, refreshed}
-use Rattle.pageout.specs.Refresh.{kept, is_in, IsNextMark, HaveFrames, IsKeptAt, AreKept, AreRefreshed, Refreshes}
+use Rattle.pageout.specs.Refresh.{kept, is_in, IsNextMark, HaveFrames, IsKeptAt, AreKept, ArePartlyKept, AreRefreshed, Refreshes}
 use Rattle.pageout.proofs.Orders.{key_tied}
 
 -- ---- ranges
@@ -70,6 +70,22 @@ module _ (place : ℕ) (is_access : Bool) where
       go : (a b : Bool) (t : ℕ) → cond (a && true) (cond (a && b) t place) place ≡ cond (a && b) t place
       go true b t = refl
       go false b t = refl
+
+  -- a mark that is not right is taken before it is looked at
+  pub refreshed_kept : (m : Option Mark) (f : Option ℕ) → refreshed place is_access (kept m f) f ≡ refreshed place is_access m f
+  refreshed_kept m None = refl
+  refreshed_kept None (Some f) = refl
+  refreshed_kept (Some m) (Some f) = go (nat_eq m.frame f) refl
+    where
+      never : (a : Bool) → cond (a && false) m.touched place ≡ place
+      never true = refl
+      never false = refl
+
+      go : (b : Bool) → nat_eq m.frame f ≡ b → refreshed place is_access (cond (nat_eq m.frame f) (Some m) None) (Some f) ≡ refreshed place is_access (Some m) (Some f)
+      go true e = ap (λ b. refreshed place is_access (cond b (Some m) None) (Some f)) e
+      go false e =
+          ap (λ b. refreshed place is_access (cond b (Some m) None) (Some f)) e
+          ∙ sym (ap (λ t. Some (record { frame = f; touched = t })) (ap (λ b. cond (not is_access && b) m.touched place) e ∙ never (not is_access)))
 
 -- ---- a span
 
@@ -257,6 +273,25 @@ module _ (st : State) (space next : ℕ) (span : Span) (low : span.first ≤ nex
           (λ i. nat_eq_equiv.refl space i && not_in_it span.first next q (λ a b. omega (arith, b, more)) i))
           ∙ none q more less
 
+  -- a page that is not of the span is not of its part
+  not_of_part : (s q : ℕ) → is_in space span s q ≡ false → is_in space (record { first = span.first; end = next }) s q ≡ false
+  not_of_part s q out = false_from_ne_true _ (λ is.
+      let both = and_parts (nat_eq s space) _ is in
+      let at = span_parts span.first next q both.1 in
+      true≢false (sym (and_from (nat_eq s space) _ both.0 (in_it span.first span.end q at.0 (omega (arith, at.1, high (omega (arith, at.0, at.1)))))) ∙ out))
+
+  pub part_kept : AreKept st space (record { first = span.first; end = next }) old now → (new : Marks) → AreSameMarks now new → ArePartlyKept st space span old new
+  part_kept was new same = record {
+    each = λ place is_access. record {
+      inside = λ s q. ap (λ m. refreshed place is_access m (frame_at st s q)) (same.each (key_of s q) ∙ was.each s q) ∙ go place is_access s q (is_in space (record { first = span.first; end = next }) s q);
+      outside = λ s q out. same.each (key_of s q) ∙ was.each s q ∙ ap (λ b. cond b (kept (at_key old s q) (frame_at st s q)) (at_key old s q)) (not_of_part s q out);
+    };
+  }
+    where
+      go : (place : ℕ) (is_access : Bool) (s q : ℕ) (b : Bool) → refreshed place is_access (cond b (kept (at_key old s q) (frame_at st s q)) (at_key old s q)) (frame_at st s q) ≡ refreshed place is_access (at_key old s q) (frame_at st s q)
+      go place is_access s q true = refreshed_kept place is_access (at_key old s q) (frame_at st s q)
+      go place is_access s q false = refl
+
   module _ (place : ℕ) (is_access : Bool) (was : AreRefreshed st place is_access space (record { first = span.first; end = next }) old now) where
     pub end_refreshed : HaveFrames st space span old → ((q : ℕ) → next ≤ q → q < span.end → frame_at st space q ≡ None) → AreRefreshed st place is_access space span old now
     end_refreshed have none = record {
@@ -267,15 +302,9 @@ module _ (st : State) (space next : ℕ) (span : Span) (low : span.first ≤ nex
     pub part_refreshes : (new : Marks) → AreSameMarks now new → Refreshes st place is_access space span old new
     part_refreshes new same = record {
       inside = λ s q. ap (λ m. refreshed place is_access m (frame_at st s q)) (same.each (key_of s q) ∙ was.each s q) ∙ go s q (is_in space (record { first = span.first; end = next }) s q);
-      outside = λ s q out. same.each (key_of s q) ∙ was.each s q ∙ ap (λ b. cond b (refreshed place is_access (at_key old s q) (frame_at st s q)) (at_key old s q)) (less s q out);
+      outside = λ s q out. same.each (key_of s q) ∙ was.each s q ∙ ap (λ b. cond b (refreshed place is_access (at_key old s q) (frame_at st s q)) (at_key old s q)) (not_of_part s q out);
     }
       where
         go : (s q : ℕ) (b : Bool) → refreshed place is_access (cond b (refreshed place is_access (at_key old s q) (frame_at st s q)) (at_key old s q)) (frame_at st s q) ≡ refreshed place is_access (at_key old s q) (frame_at st s q)
         go s q true = refreshed_again place is_access (at_key old s q) (frame_at st s q)
         go s q false = refl
-
-        less : (s q : ℕ) → is_in space span s q ≡ false → is_in space (record { first = span.first; end = next }) s q ≡ false
-        less s q out = false_from_ne_true _ (λ is.
-            let both = and_parts (nat_eq s space) _ is in
-            let at = span_parts span.first next q both.1 in
-            true≢false (sym (and_from (nat_eq s space) _ both.0 (in_it span.first span.end q at.0 (omega (arith, at.1, high (omega (arith, at.0, at.1)))))) ∙ out))

@@ -6,6 +6,7 @@
 --     IsKeptAt, AreKept, AreRefreshed      the mark of a page is kept, if it is right;  of the pages of a span the right marks are;  are looked at again
 --         (all other marks stay)
 --     Refreshes      marks that are looked at again become what they became before
+--     ArePartlyKept      the same however they are looked at, where some that are not right are taken
 --     SettlesSame, AreSettled      the same of all pages of the work;  all of it is done
 use Rattle.std.specs.Prelude.{◌≡◌, ℕ, ◌<◌, ◌≤◌, Bool, true, false, cond, ◌&&◌, nat_eq, Option, Some, None, IfSome}
 use Rattle.page_map.specs.State.{State}
@@ -48,6 +49,9 @@ pub record AreRefreshed (st : State) (place : ℕ) (is_access : Bool) (space : �
 pub record Refreshes (st : State) (place : ℕ) (is_access : Bool) (space : ℕ) (span : Span) (old new : Marks) : Type 0 where
   pub inside : (s page : ℕ) → refreshed place is_access (mark_at new (key_of s page)) (frame_at st s page) ≡ refreshed place is_access (mark_at old (key_of s page)) (frame_at st s page)
   pub outside : (s page : ℕ) → is_in space span s page ≡ false → mark_at new (key_of s page) ≡ mark_at old (key_of s page)
+
+pub record ArePartlyKept (st : State) (space : ℕ) (span : Span) (old new : Marks) : Type 0 where
+  pub each : (place : ℕ) (is_access : Bool) → Refreshes st place is_access space span old new
 
 pub record SettlesSame (st : State) (w : Work) (old new : Marks) : Type 0 where
   pub each : (s page : ℕ) → settled new w st s page ≡ settled old w st s page

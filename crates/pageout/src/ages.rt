@@ -1,6 +1,6 @@
 //! The last touches of a history, entry by entry.
 ghost use Rattle.std.specs.Prelude.{◌≡◌, ℕ, ◌+◌, ◌<◌, ◌≤◌, ◌^◌, ◌↔◌, List, [], ◌∷◌, ◌++◌, length, take, IfOk, OnOk, OnErr, Err};
-ghost use Rattle.std.specs.BTreeMap.{IsOrdered};
+ghost use Rattle.std.specs.BTreeSet.{IsOrdered};
 ghost use Rattle.corten_base.specs.declared.calls.Entry.{Entry};
 ghost use Rattle.corten_base.specs.declared.numbers.Limits.{Limits};
 ghost use Rattle.page_map.specs.State.{IsWithinLimits, linked};
@@ -10,7 +10,6 @@ ghost use Rattle.mm_model.specs.declared.step.StepFault.TheVariants as StepFault
 ghost use Rattle.mm_model.specs.Served.{IsServed};
 ghost use Rattle.pageout.specs.declared.victims.Victim.{Victim};
 ghost use Rattle.pageout.specs.Victims.{AreVictims, victim_cmp};
-ghost use Rattle.pageout.specs.Index.{own_victims};
 ghost use Rattle.pageout.specs.Work.{no_work};
 ghost use Rattle.pageout.specs.Ages.{AreAgesOf, IsSame, answered};
 
@@ -22,9 +21,9 @@ use corten_base::{Call, Limits, Reply};
 use file_shelf::Shelf;
 use mm_model::{Plain, StepFault};
 use std::alloc::{AllocError, Global};
-use std::collections::BTreeMap;
+use std::collections::BTreeSet;
 
-/// The plain machine, and of each page that has a frame its last touch.
+/// The plain machine, of each page that has a frame its last touch, and the victims in order.
 #[derive(Drop)]
 pub struct Ages {
     plain: Plain,
@@ -35,22 +34,12 @@ pub struct Ages {
     work: Work,
 }
 
-/// The first pages, so many or all, whose frames have one owner.
-fn first_own(
-    alloc: Global,
-    plain: &Plain,
-    order: &BTreeMap<Victim, u32>,
-    most: u32,
-) -> Result<Vec<Victim>, AllocError>
+/// The first victims, so many or all.
+fn first_of(alloc: Global, order: &BTreeSet<Victim>, most: u32) -> Result<Vec<Victim>, AllocError>
     ensures ordered { IsOrdered victim_cmp order.now }
-    ensures first { IfOk result (λ v. v.items ≡ take most (own_victims plain.now order.now)) }
+    ensures first { IfOk result (λ v. v.items ≡ take most order.now.keys) }
 {
-    order
-        .iter()
-        .filter(|(_, frame)| plain.has_one_owner(**frame))
-        .map(|(victim, _)| *victim)
-        .take(most as usize)
-        .collect(alloc)
+    order.iter().take(most as usize).copied().collect(alloc)
 }
 
 impl Ages {
@@ -127,7 +116,7 @@ impl Ages {
         if !self.work.is_done() {
             return Err(AllocError);
         }
-        let victims = first_own(alloc, &self.plain, &self.index.order, most)?;
+        let victims = first_of(alloc, &self.index.order, most)?;
         Ok(VictimList::of(victims))
     }
 }

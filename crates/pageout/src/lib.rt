@@ -4,6 +4,7 @@
 mod ages;
 mod index;
 mod marks;
+mod owners;
 mod refresh;
 mod replay;
 mod victims;

@@ -1,8 +1,8 @@
 //! Marks that are looked at again.
-ghost use Rattle.std.specs.Prelude.{◌≡◌, ℕ, ◌<◌, ◌≤◌, Some, None, IsTrue, IfSome, IfNone, OnOk, ◌↔◌};
+ghost use Rattle.std.specs.Prelude.{◌≡◌, ℕ, ◌<◌, ◌≤◌, Some, None, IsTrue, IfSome, IfNone, OnOk, OnErr, ◌↔◌};
 ghost use Rattle.mm_model.specs.Pages.{frame_at};
-ghost use Rattle.pageout.specs.Index.{key_of, mark_at};
-ghost use Rattle.pageout.specs.Refresh.{HaveFrames, AreKept, IsKeptAt, AreRefreshed, Refreshes, SettlesSame, AreSettled};
+ghost use Rattle.pageout.specs.Index.{AreSameMarks, key_of, mark_at};
+ghost use Rattle.pageout.specs.Refresh.{HaveFrames, AreKept, ArePartlyKept, IsKeptAt, AreRefreshed, Refreshes, SettlesSame, AreSettled};
 
 use crate::index::Index;
 use crate::marks::{Key, Mark};
@@ -38,27 +38,37 @@ fn mapped_in(plain: &Plain, space: SpaceId, first: u64, end: u64) -> Option<(u64
 }
 
 /// Takes the mark of a page, if the page does not have the frame of its mark, which is this.
-fn drop_if_old(index: &mut Index, plain: &Plain, space: SpaceId, page: u64, frame: u32)
+fn drop_if_old(
+    index: &mut Index,
+    plain: &Plain,
+    space: SpaceId,
+    page: u64,
+    frame: u32,
+) -> Result<(), AllocError>
     requires { IfSome (mark_at index.old.marks (key_of space page)) (λ mark. frame ≡ mark.frame) }
-    ensures { IsKeptAt plain.now space page index.old.marks index.new.marks }
+    ensures ok { OnOk result (IsKeptAt plain.now space page index.old.marks index.new.marks) }
+    ensures err { OnErr result (AreSameMarks index.old.marks index.new.marks) }
 {
-    if !has_frame(plain, space, page, frame) {
-        index.forget(Key {
-            space: space.number(),
-            page,
-        });
+    if has_frame(plain, space, page, frame) {
+        return Ok(());
     }
+    index.forget(Key {
+        space: space.number(),
+        page,
+    })
 }
 
 /// Takes the marks of the pages of a span that do not have the frames that the marks say.
-fn drop_old(index: &mut Index, plain: &Plain, space: SpaceId, span: Span)
-    ensures { AreKept plain.now space span index.old.marks index.new.marks }
+fn drop_old(index: &mut Index, plain: &Plain, space: SpaceId, span: Span) -> Result<(), AllocError>
+    ensures ok { OnOk result (AreKept plain.now space span index.old.marks index.new.marks) }
+    ensures err { OnErr result (ArePartlyKept plain.now space span index.old.marks index.new.marks) }
 {
     let mut next = span.first;
     while let Some((page, frame)) = index.next_in(space, next, span.end) {
-        drop_if_old(index, plain, space, page, frame);
+        drop_if_old(index, plain, space, page, frame)?;
         next = page + 1;
     }
+    Ok(())
 }
 
 /// Looks again at the marks of the pages of a span that have frames.
@@ -104,7 +114,7 @@ fn refresh_span(
     ensures ok { OnOk result
         (AreRefreshed plain.now place is_access space span index.old.marks index.new.marks) }
 {
-    drop_old(index, plain, space, span);
+    drop_old(index, plain, space, span)?;
     mark_mapped(index, plain, space, span, place, is_access)
 }
 

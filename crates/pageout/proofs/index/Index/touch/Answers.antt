@@ -1,30 +1,21 @@
-use Rattle.std.proofs.Common.{◌≢◌, sym, ap, subst, ◌∙◌}
-use Rattle.std.specs.Prelude.{Some, None, IfSome}
-use Rattle.std.specs.Map.{lookup}
-use Rattle.std.specs.BTreeMap.{is_at}
-use Rattle.pageout.specs.Index.{key_cmp}
-use Rattle.pageout.proofs.Agreeing.{IsPut, victim_of, put_new, put_again, put_back}
+use Rattle.std.proofs.Common.{◌≡◌, false, sym, subst}
+use Rattle.pageout.specs.Index.{IsMovedOn, is_victim, mark_at, victim_of}
+use Rattle.pageout.proofs.Sole.{not_yet, sole_touched}
 use Rattle.pageout.proofs.index.Index.touch.Goals as goal
 
-pub invariant_of-self-in-Ok-None : goal.invariant_of-self-in-Ok-None
-invariant_of-self-in-Ok-None c = record {
-  agree = put_new c.args.self.now.marks c.args.self.now.order c.args.self.now.agree c.args.key c.insert-2.new.self c.insert.new.self c.args.mark (sym c.in-Ok-None.ensures.old ∙ c.in-Ok-None.field-0-is)
-      c.in-Ok-None.ensures.updates.0 (subst (λ v. IsPut c.args.self.now.order c.insert.new.self v (Some c.args.mark.frame)) c.victim_at.ensures c.in_ok-insert.ensures.updates.0);
-}
+pub move_on-requires : goal.move_on-requires
+move_on-requires c =
+    subst (λ v. is_victim c.args.self.now.order v ≡ false) (sym c.victim_at-2.ensures)
+    (not_yet (mark_at c.args.self.now.marks) c.args.key c.args.old c.args.mark (is_victim c.args.self.now.order) c.requires.old c.requires.later c.args.self.now.sole.each)
 
-pub invariant_of-self-in-Ok-Some : goal.invariant_of-self-in-Ok-Some
-invariant_of-self-in-Ok-Some c =
-    let was = sym c.in-Ok-Some.ensures.old ∙ c.in-Ok-Some.field-0-is in
+pub invariant_of-self-2 : goal.invariant_of-self-2
+invariant_of-self-2 c =
+    let moved : IsMovedOn c.args.self.now.order c.move_on.new.order (victim_of c.args.key c.args.old.touched) (victim_of c.args.key c.args.mark.touched) =
+    subst (λ v. IsMovedOn c.args.self.now.order c.move_on.new.order v (victim_of c.args.key c.args.mark.touched)) c.victim_at.ensures
+    (subst (λ v. IsMovedOn c.args.self.now.order c.move_on.new.order c.victim_at.result v) c.victim_at-2.ensures c.in_ok-move_on.ensures.ok) in
     record {
-      agree = put_again c.args.self.now.marks c.args.self.now.order c.args.self.now.agree c.args.key c.insert-2.new.self c.insert.new.self c.remove.new.self c.args.mark c.in-Ok-Some.old was
-          (subst (λ o. IfSome o (λ old. old.touched ≢ c.args.mark.touched)) was c.requires) c.in-Ok-Some.ensures.updates.0
-          (subst (λ v. IsPut c.args.self.now.order c.insert.new.self v (Some c.args.mark.frame)) c.victim_at.ensures c.in_ok-insert.ensures.updates.0)
-          (subst (λ v. IsPut c.insert.new.self c.remove.new.self v None) (c.victim_at-in-Ok-Some.ensures ∙ ap (λ m. victim_of c.args.key m.touched) c.in-Ok-Some.old-is) c.remove.ensures.updates.0);
+      sole = record {
+        each = sole_touched (mark_at c.args.self.now.marks) (mark_at c.replace.new.self) c.args.key c.args.old c.args.mark c.requires.old c.replace.ensures.each c.requires.frame c.requires.later
+            (is_victim c.args.self.now.order) (is_victim c.move_on.new.order) c.args.self.now.sole.each moved.each;
+      };
     }
-
-pub invariant_of-self-in-Err : goal.invariant_of-self-in-Err
-invariant_of-self-in-Err c = record {
-  agree = put_back c.args.self.now.marks c.args.self.now.order c.args.self.now.agree c.args.key c.insert-2.new.self c.insert.new.self c.remove-in-Err.new.self c.args.mark.touched c.args.mark.frame c.in-Err.ensures.absent
-      (λ q. ap (lookup (is_at (key_cmp q))) c.in-Err.ensures.err) (subst (λ v. IsPut c.args.self.now.order c.insert.new.self v (Some c.args.mark.frame)) c.victim_at.ensures c.in_ok-insert.ensures.updates.0)
-      (subst (λ v. IsPut c.insert.new.self c.remove-in-Err.new.self v None) c.victim_at-in-Err.ensures c.remove-in-Err.ensures.updates.0);
-}
