@@ -29,7 +29,7 @@ use Rattle.history_lines.proofs.Closings.{few_levels, step_limits, start_limits,
 use Rattle.history_text.proofs.Spelled.{spelled_step}
 
 -- the bytes that a call with a line stores
-stored_bytes : (c : Call) → IsCall c → AreBytes (stored_by c)
+pub stored_bytes : (c : Call) → IsCall c → AreBytes (stored_by c)
 stored_bytes (call.Store space at bytes) h = h.3
 stored_bytes _ h = All-nil (λ b. b < 256)
 
@@ -55,13 +55,13 @@ none_there limits files = record { spaces = fin.empty; tables = set.empty; limit
 nothing : (limits : Limits) (files : List (List ℕ)) (s p : ℕ) → cell_at (none_there limits files) s p ≡ None
 nothing limits files s p = ap (λ (o : Option AddressSpace). fin.get (unwrap_or o fin.empty) p) (get-empty nat_cmp s) ∙ get-empty nat_cmp p
 
-start_cells : (limits : Limits) (files : List (List ℕ)) (s p : ℕ) (c : Cell) → cell_at (start limits files) s p ≡ Some c → ⊥
+pub start_cells : (limits : Limits) (files : List (List ℕ)) (s p : ℕ) (c : Cell) → cell_at (start limits files) s p ≡ Some c → ⊥
 unfolding start
 start_cells limits files =
     each_cell (none_there limits files) 0 fin.empty (set.insert set.empty (root (levels_of limits) 0)) (λ s p c. ⊥)
     (λ p c f. not_none (sym f ∙ get-empty nat_cmp p)) (λ s p c other f. not_none (sym f ∙ nothing limits files s p))
 
-start_bytes : (limits : Limits) (files : List (List ℕ)) → AreFiles files → AreAllBytes (start limits files)
+pub start_bytes : (limits : Limits) (files : List (List ℕ)) → AreFiles files → AreAllBytes (start limits files)
 start_bytes limits files h = record {
   files = subst (All AreBytes) (sym (start_files limits files)) (All-weaker IsFile AreBytes (λ f is. is.fit) files h.each);
   cells = λ s p c e. absurd (start_cells limits files s p c e);

@@ -5,7 +5,7 @@ ghost use Rattle.page_map.specs.History.{IsLegal, after, entry_step};
 ghost use Rattle.page_map.specs.History as definitions;
 ghost use Rattle.history_lines.specs.HistoryText.{IsEntry, IsEntryOf, HasText};
 ghost use Rattle.history_lines.specs.HistoryText as text;
-ghost use Rattle.history_lines.specs.Checking.{IsRight, AreRight, IsVerdict};
+ghost use Rattle.history_lines.specs.Checking.{IsRight, AreRight, IsLegalHistory, IsVerdict};
 ghost use Rattle.history_lines.specs.Wrong.{IsWrongAt, AreTablesRight, WrongAccount};
 
 use corten_base::{Accounts, Entry, Reply};
@@ -117,7 +117,9 @@ fn first_entry(history: &History) -> u64
 fn judge(alloc: Global, plain: &mut Plain, history: &History) -> Result<Verdict, AllocError>
     requires text { HasText history.now }
     requires start { plain.old ≡ start history.now.limits history.now.shelf }
-    ensures { IfOk result (IsVerdict history.now) }
+    ensures verdict { IfOk result (IsVerdict history.now) }
+    ensures machine { IfOk result (λ _. IsLegalHistory history.now
+        → plain.new ≡ after (start history.now.limits history.now.shelf) history.now.entries) }
 {
     let first = first_entry(history);
     let entries = history.entries.list();
@@ -138,4 +140,16 @@ pub fn check(alloc: Global, history: &History) -> Result<Verdict, AllocError>
 {
     let mut plain = start_of(alloc, history)?;
     judge(alloc, &mut plain, history)
+}
+
+/// What `check` finds of a history, and the machine that it leaves, if it is legal.
+pub fn replay(alloc: Global, history: &History) -> Result<(Verdict, Plain), AllocError>
+    requires { HasText history.now }
+    ensures verdict { IfOk result (λ found. IsVerdict history.now found.0) }
+    ensures machine { IfOk result (λ found. IsLegalHistory history.now
+        → found.1 ≡ after (start history.now.limits history.now.shelf) history.now.entries) }
+{
+    let mut plain = start_of(alloc, history)?;
+    let verdict = judge(alloc, &mut plain, history)?;
+    Ok((verdict, plain))
 }

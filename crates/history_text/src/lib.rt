@@ -4,7 +4,7 @@
 mod checking;
 mod laws;
 
-pub use checking::check;
+pub use checking::{check, replay};
 pub use history_lines::{
     History, Verdict, Written, a_history_has_one_verdict, a_line_has_one_entry,
     a_text_has_one_first_fault, a_text_has_one_history,

@@ -15,3 +15,7 @@ pub mod OneList
 pub mod SavedItems
 pub mod Entering
 pub mod Restored
+pub mod FilesThere
+pub mod RunStarts
+pub mod SavedBounds
+pub mod SavedImage

@@ -1,6 +1,6 @@
 -- Spans that are alike in an image are alike in each map that comes on the way to it: a run is there whole or not at all,
 -- and no page with a number is in such a span.
---     alike_same      maps that differ in numbers alone have the same spans that are alike
+--     on_without, alike_same      maps that differ in numbers alone go on alike, and have the same spans that are alike
 --     IsPartOf      a map on the way to that of some items
 --     alike_kept      a span that is alike in the map of all items is alike in it
 --     part_of, part_over      items of an image, and one more in the place of another, are such a map
@@ -29,7 +29,7 @@ use Rattle.space_image.proofs.InOrder.{InOrder, all_apart, run_stops, some_pages
 
 -- ---- numbers are of no account
 
-on_without : (a : Option Cell) (i : ℕ) (b : Option Cell) → continues (option_map without_number a) i (option_map without_number b) ≡ continues a i b
+pub on_without : (a : Option Cell) (i : ℕ) (b : Option Cell) → continues (option_map without_number a) i (option_map without_number b) ≡ continues a i b
 on_without None i None = refl
 on_without None i (Some c) = refl
 on_without (Some (Anon perm)) i None = refl

@@ -6,12 +6,15 @@
 --     IsSaved      the text of a space's image
 --     is_deep      whether a page is one of a file, further in it than the first page of a mapping may be
 --     IsDeep, AreNoneDeep      a longest run that begins with such a page;  that there is none
+--     HasImage      a space that is there, with no such run
+--     HasImageText      cells whose image has these bytes as its text, within the bounds of images
 --     IsFirstDeep      the address of the first one
 --     IsSaveFault      why a space is not saved
 use Rattle.std.specs.Prelude.{◌≡◌, ℕ, ◌*◌, ◌^◌, ◌<◌, Bool, true, false, List, ◌++◌, length, map, nat_lt, Option, Some}
 use Rattle.std.specs.Option.{option_map}
 use Rattle.std.specs.FinMap.{get}
 use Rattle.corten_base.specs.declared.calls.Backing.TheVariants as backing
+use Rattle.corten_base.specs.declared.numbers.Limits.{Limits}
 use Rattle.corten_base.specs.declared.numbers.Status.{Status}
 use Rattle.corten_base.specs.declared.numbers.Status.TheVariants as status
 use Rattle.page_map.specs.declared.cell.Cell.{Cell}
@@ -26,7 +29,7 @@ use Rattle.image_text.specs.declared.image.Item.TheVariants as item
 use Rattle.image_text.specs.declared.image.Residence.TheVariants.{Live, Out}
 use Rattle.image_text.specs.Items.{AreEqualButForNumbers, cells_of, trimmed}
 use Rattle.image_text.specs.Images.{ImageParts, AreInOrder, IsImageOf}
-use Rattle.image_text.specs.ImageText.{image_text, item_line}
+use Rattle.image_text.specs.ImageText.{IsImageText, image_text, item_line}
 use Rattle.space_image.specs.declared.saving.SaveFault.{SaveFault}
 use Rattle.space_image.specs.declared.saving.SaveFault.TheVariants.{NoSpace, Deep, NoMemory}
 
@@ -71,6 +74,12 @@ pub record IsDeep (cells : AddressSpace) (page : ℕ) : Type 0 where
 abbrev pub AreNoneDeep : AddressSpace → Type 0
 AreNoneDeep cells = (page : ℕ) → ¬ (IsDeep cells page)
 
+abbrev pub HasImage : State → ℕ → Type 0
+HasImage st space = (is_present st space ≡ true) × AreNoneDeep (space_at st space)
+
+abbrev pub HasImageText : Limits → List (List ℕ) → AddressSpace → List ℕ → Type 0
+HasImageText limits files cells bytes = (image : ImageParts) × IsImageOf limits files cells image × IsImageText bytes image
+
 pub record IsFirstDeep (cells : AddressSpace) (address : ℕ) : Type 0 where
   pub page : ℕ
   pub at : address ≡ 4096 * page
@@ -81,4 +90,4 @@ pub record IsFirstDeep (cells : AddressSpace) (address : ℕ) : Type 0 where
 abbrev pub IsSaveFault : State → ℕ → SaveFault → Type 0
 IsSaveFault st space NoSpace = is_present st space ≡ false
 IsSaveFault st space (Deep address) = IsFirstDeep (space_at st space) address
-IsSaveFault st space NoMemory = (is_present st space ≡ true) × AreNoneDeep (space_at st space)
+IsSaveFault st space NoMemory = HasImage st space

@@ -6,6 +6,9 @@ mod laws;
 mod restoring;
 mod saving;
 
-pub use laws::{a_map_has_one_image, an_image_is_restored, an_image_is_saved_again};
+pub use laws::{
+    a_map_has_one_image, an_image_is_restored, an_image_is_saved_again,
+    what_is_saved_can_be_restored,
+};
 pub use restoring::restore;
 pub use saving::{SaveFault, save_image};
