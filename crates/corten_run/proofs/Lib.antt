@@ -1,6 +1,8 @@
 pub mod Answering
 pub mod Texts
 pub mod Told
+pub mod OneCommand
+pub mod ImageEndings
 pub mod Single
 pub mod Shown
 pub mod SoloLegal

@@ -18,17 +18,15 @@ use Rattle.history_lines.proofs.OneHistory.{one_history}
 use Rattle.history_lines.proofs.OneVerdict.{one_verdict}
 use Rattle.tlb_text.specs.EventText.{IsEventText}
 use Rattle.tlb_text.proofs.Behind.{is_event_text}
-use Rattle.mm_script.proofs.OneArgument.{same_number}
 use Rattle.corten_run.specs.VictimText.{IsFound}
-use Rattle.corten_run.specs.Commands.{Names, greatest_length}
+use Rattle.corten_run.specs.Commands.{greatest_length}
 use Rattle.corten_run.specs.Endings.{Sides, CommandEnds, Answers, IsNoText, IsFirstFault, Refuses, IsVerdictText, IsVictimsText, ending_of, verdict_line}
 use Rattle.corten_run.specs.Statuses.{status_of}
 use Rattle.corten_run.specs.declared.command.Levels.{Levels}
-use Rattle.corten_run.specs.declared.command.Levels.TheVariants.{Four, Five}
 use Rattle.corten_run.specs.declared.command.Command.{Command}
-use Rattle.corten_run.specs.declared.command.Command.TheVariants.{Solo, Check, Victims, Tlb}
+use Rattle.corten_run.specs.declared.command.Command.TheVariants.{Solo, Check, Victims, Tlb, Save, Restore}
 use Rattle.corten_run.specs.declared.ending.Ending.{Ending}
-use Rattle.corten_run.specs.declared.ending.Ending.TheVariants.{Done, Refused, Usage, ReadFailed, WriteFailed, NoMemory, Illegal}
+use Rattle.corten_run.specs.declared.ending.Ending.TheVariants.{Done, Refused, Usage, ReadFailed, WriteFailed, NoMemory, Illegal, NotSaved}
 
 -- a command that answers bytes has read a text
 answers_no_text : (command : Command) (bytes written : List ℕ) (e : Ending) → Answers command bytes e written → (length bytes ≤ greatest_length command → IsNoText command bytes) → ⊥
@@ -36,12 +34,15 @@ answers_no_text (Solo levels) bytes written e h none = none h.0.fits h.0.script 
 answers_no_text Check bytes written e h none = none h.fits h.history h.is_text
 answers_no_text (Victims most) bytes written e h none = none h.fits h.history h.is_text
 answers_no_text Tlb bytes written e h none = none h.0.fits (is_event_text bytes written h.0.answers)
+answers_no_text (Save space) bytes written e h none = none h.fits h.history h.is_text
+answers_no_text Restore bytes written e h none = none h.0.fits h.0.image h.0.is_text
 
 -- bytes that are no such text are refused, or memory is wanted
 pub refused_when : (command : Command) (bytes : List ℕ) (s : Sides) (e : Ending) → CommandEnds command bytes s e → ¬ (Rises s.read_faults s.read_faults_now)
     → (length bytes ≤ greatest_length command → IsNoText command bytes) → (status_of e ≡ 1) ⊎ (status_of e ≡ 5)
 refused_when command bytes s Done ends quiet none = absurd (answers_no_text command bytes ends.0 Done ends.1 none)
 refused_when command bytes s Illegal ends quiet none = absurd (answers_no_text command bytes ends.0 Illegal ends.1 none)
+refused_when command bytes s NotSaved ends quiet none = absurd (answers_no_text command bytes ends.0 NotSaved ends.1 none)
 refused_when command bytes s Refused ends quiet none = inl refl
 refused_when command bytes s Usage ends quiet none = absurd ends
 refused_when command bytes s ReadFailed ends quiet none = absurd (quiet ends.0)
@@ -53,6 +54,7 @@ moved : (command : Command) (bytes : List ℕ) (left_now : Option (List ℕ)) (f
     → CommandEnds command bytes (record s { left_now = left_now; read_faults = f; read_faults_now = f' }) e
 moved command bytes left_now f f' s Done end other ends = (ends.0, ends.1, ends.2, end)
 moved command bytes left_now f f' s Illegal end other ends = (ends.0, ends.1, ends.2, end)
+moved command bytes left_now f f' s NotSaved end other ends = (ends.0, ends.1, ends.2, end)
 moved command bytes left_now f f' s Refused end other ends = ends
 moved command bytes left_now f f' s Usage end other ends = absurd ends
 moved command bytes left_now f f' s ReadFailed end other ends = absurd (other refl)
@@ -84,6 +86,7 @@ done_when : (levels : Levels) (bytes : List ℕ) (script : Script) (s : Sides) (
     → IsScriptText bytes script → length bytes ≤ greatest_length (Solo levels) → (status_of e ≡ 0) ⊎ (status_of e ≡ 5)
 done_when levels bytes script s Done ends quiet silent is_text fits = inl refl
 done_when levels bytes script s Illegal ends quiet silent is_text fits = let differ : Illegal ≡ Done = ends.1.1 in absurd (cc differ)
+done_when levels bytes script s NotSaved ends quiet silent is_text fits = let differ : NotSaved ≡ Done = ends.1.1 in absurd (cc differ)
 done_when levels bytes script s Refused (written, inl bad, said) quiet silent is_text fits = absurd (bad.no_text script is_text)
 done_when levels bytes script s Refused (written, inr long, said) quiet silent is_text fits = let more = long.too_long in absurd (omega (arith, more, fits))
 done_when levels bytes script s Usage ends quiet silent is_text fits = absurd ends
@@ -101,6 +104,7 @@ answered_when : (bytes : List ℕ) (s : Sides) (e : Ending) → CommandEnds Tlb 
     → IsEventText bytes → length bytes ≤ greatest_length Tlb → (status_of e ≡ 0) ⊎ (status_of e ≡ 5)
 answered_when bytes s Done ends quiet silent is_text fits = inl refl
 answered_when bytes s Illegal ends quiet silent is_text fits = let differ : Illegal ≡ Done = ends.1.1 in absurd (cc differ)
+answered_when bytes s NotSaved ends quiet silent is_text fits = let differ : NotSaved ≡ Done = ends.1.1 in absurd (cc differ)
 answered_when bytes s Refused (written, inl bad, said) quiet silent is_text fits = absurd (bad.no_text is_text)
 answered_when bytes s Refused (written, inr long, said) quiet silent is_text fits = let more = long.too_long in absurd (omega (arith, more, fits))
 answered_when bytes s Usage ends quiet silent is_text fits = absurd ends
@@ -124,6 +128,7 @@ judged_when : (bytes : List ℕ) (h : History) (v : Verdict) (s : Sides) (e : En
     → IsHistoryText bytes h → length bytes ≤ greatest_length Check → IsVerdict h v → (status_of e ≡ status_of (ending_of v)) ⊎ (status_of e ≡ 5)
 judged_when bytes h v s Done ends quiet silent is_text fits is_verdict = inl (ap status_of (same_ending bytes ends.0 Done h v ends.1 is_text is_verdict))
 judged_when bytes h v s Illegal ends quiet silent is_text fits is_verdict = inl (ap status_of (same_ending bytes ends.0 Illegal h v ends.1 is_text is_verdict))
+judged_when bytes h v s NotSaved ends quiet silent is_text fits is_verdict = inl (ap status_of (same_ending bytes ends.0 NotSaved h v ends.1 is_text is_verdict))
 judged_when bytes h v s Refused (written, inl bad, said) quiet silent is_text fits is_verdict = absurd (bad.no_text h is_text)
 judged_when bytes h v s Refused (written, inr long, said) quiet silent is_text fits is_verdict = let more = long.too_long in absurd (omega (arith, more, fits))
 judged_when bytes h v s Usage ends quiet silent is_text fits is_verdict = absurd ends
@@ -152,6 +157,7 @@ found_when : (most : ℕ) (bytes : List ℕ) (h : History) (v : Verdict) (s : Si
     → IsHistoryText bytes h → length bytes ≤ greatest_length (Victims most) → IsVerdict h v → (status_of e ≡ status_of (ending_of v)) ⊎ (status_of e ≡ 5)
 found_when most bytes h v s Done ends quiet silent is_text fits is_verdict = inl (ap status_of (found_ending most bytes ends.0 Done h v ends.1 is_text is_verdict))
 found_when most bytes h v s Illegal ends quiet silent is_text fits is_verdict = inl (ap status_of (found_ending most bytes ends.0 Illegal h v ends.1 is_text is_verdict))
+found_when most bytes h v s NotSaved ends quiet silent is_text fits is_verdict = inl (ap status_of (found_ending most bytes ends.0 NotSaved h v ends.1 is_text is_verdict))
 found_when most bytes h v s Refused (written, inl bad, said) quiet silent is_text fits is_verdict = absurd (bad.no_text h is_text)
 found_when most bytes h v s Refused (written, inr long, said) quiet silent is_text fits is_verdict = let more = long.too_long in absurd (omega (arith, more, fits))
 found_when most bytes h v s Usage ends quiet silent is_text fits is_verdict = absurd ends
@@ -171,9 +177,9 @@ pub found_named : (command : Command) (most : ℕ) → command ≡ Victims most 
 found_named command most is left h v s e n status told = found_if most left h v s e n status (subst (λ k. IfSome left (λ bytes. CommandEnds k bytes s e)) is told)
 
 -- where a text was found, no ending of it is a fault
-pub no_fault_found : (most : ℕ) (h : History) (e : Ending) (written : List ℕ) → IsFound most h e written → (e ≢ ReadFailed) × (e ≢ WriteFailed)
-no_fault_found most h Done written found = (λ e. cc, λ e. cc)
-no_fault_found most h Illegal written found = (λ e. cc, λ e. cc)
+pub no_fault_found : (most : ℕ) (h : History) (e : Ending) (written : List ℕ) → IsFound most h e written → (e ≢ ReadFailed) × (e ≢ WriteFailed) × (e ≢ NotSaved)
+no_fault_found most h Done written found = (λ e. cc, λ e. cc, λ e. cc)
+no_fault_found most h Illegal written found = (λ e. cc, λ e. cc, λ e. cc)
 no_fault_found most h _ written found = absurd found
 
 -- the whole text was written
@@ -195,46 +201,9 @@ pub verdict_text : (bytes : List ℕ) (h : History) (v : Verdict) → IsHistoryT
 verdict_text bytes h v is_text fits is_verdict = record { history = h; is_text = is_text; fits = fits; verdict = v; is_verdict = is_verdict; ends = refl; line = refl }
 
 -- no ending of a history that was judged is a fault
-pub no_fault_ending : (v : Verdict) → (ending_of v ≢ ReadFailed) × (ending_of v ≢ WriteFailed)
-no_fault_ending (verdict.Legal n) = (λ e. cc, λ e. cc)
-no_fault_ending (verdict.Illegal n) = (λ e. cc, λ e. cc)
-
-second : {a b x y : List ℕ} → a ∷ x ∷ [] ≡ b ∷ y ∷ [] → x ≡ y
-second e = cc
-
--- the first letter of `victims` is no other command's
-abbrev first_letter : List (List ℕ) → ℕ
-first_letter [] = 0
-first_letter ([] ∷ words) = 0
-first_letter ((letter ∷ letters) ∷ words) = letter
-
--- words name one command at most
-pub one_command : (words : List (List ℕ)) (a b : Command) → Names words a → Names words b → a ≡ b
-one_command words (Solo Four) (Solo Four) ha hb = refl
-one_command words (Solo Five) (Solo Five) ha hb = refl
-one_command words (Solo Four) (Solo Five) ha hb = let same = sym ha ∙ hb in absurd (cc same)
-one_command words (Solo Five) (Solo Four) ha hb = let same = sym ha ∙ hb in absurd (cc same)
-one_command words (Solo Four) Check ha hb = let same = sym ha ∙ hb in absurd (cc same)
-one_command words (Solo Five) Check ha hb = let same = sym ha ∙ hb in absurd (cc same)
-one_command words Check (Solo Four) ha hb = let same = sym ha ∙ hb in absurd (cc same)
-one_command words Check (Solo Five) ha hb = let same = sym ha ∙ hb in absurd (cc same)
-one_command words Check Check ha hb = refl
-one_command words (Solo Four) Tlb ha hb = let same = sym ha ∙ hb in absurd (cc same)
-one_command words (Solo Five) Tlb ha hb = let same = sym ha ∙ hb in absurd (cc same)
-one_command words Check Tlb ha hb = let same = sym ha ∙ hb in absurd (cc same)
-one_command words Tlb (Solo Four) ha hb = let same = sym ha ∙ hb in absurd (cc same)
-one_command words Tlb (Solo Five) ha hb = let same = sym ha ∙ hb in absurd (cc same)
-one_command words Tlb Check ha hb = let same = sym ha ∙ hb in absurd (cc same)
-one_command words Tlb Tlb ha hb = refl
-one_command words (Victims m) (Victims n) ha hb = ap Victims (same_number m n 4096 ha.0.1 hb.0.1 (omega arith) (second (sym ha.1 ∙ hb.1)))
-one_command words (Victims m) (Solo Four) ha hb = let differ = ap first_letter (sym ha.1 ∙ hb) in absurd (omega (arith, differ))
-one_command words (Victims m) (Solo Five) ha hb = let differ = ap first_letter (sym ha.1 ∙ hb) in absurd (omega (arith, differ))
-one_command words (Victims m) Check ha hb = let differ = ap first_letter (sym ha.1 ∙ hb) in absurd (omega (arith, differ))
-one_command words (Victims m) Tlb ha hb = let differ = ap first_letter (sym ha.1 ∙ hb) in absurd (omega (arith, differ))
-one_command words (Solo Four) (Victims n) ha hb = let differ = ap first_letter (sym hb.1 ∙ ha) in absurd (omega (arith, differ))
-one_command words (Solo Five) (Victims n) ha hb = let differ = ap first_letter (sym hb.1 ∙ ha) in absurd (omega (arith, differ))
-one_command words Check (Victims n) ha hb = let differ = ap first_letter (sym hb.1 ∙ ha) in absurd (omega (arith, differ))
-one_command words Tlb (Victims n) ha hb = let differ = ap first_letter (sym hb.1 ∙ ha) in absurd (omega (arith, differ))
+pub no_fault_ending : (v : Verdict) → (ending_of v ≢ ReadFailed) × (ending_of v ≢ WriteFailed) × (ending_of v ≢ NotSaved)
+no_fault_ending (verdict.Legal n) = (λ e. cc, λ e. cc, λ e. cc)
+no_fault_ending (verdict.Illegal n) = (λ e. cc, λ e. cc, λ e. cc)
 
 pub told_named : (command named : Command) → command ≡ named → (left : Option (List ℕ)) (s : Sides) (e : Ending) (n : ℕ) → n ≡ status_of e → IfSome left (λ bytes. CommandEnds command bytes s e)
     → IfSome left (λ bytes. (ending : Ending) × (n ≡ status_of ending) × CommandEnds named bytes s ending)

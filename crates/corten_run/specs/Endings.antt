@@ -3,6 +3,7 @@
 --     IsTlbText      what `tlb` writes for the bytes of events
 --     verdict_line, ending_of, IsVerdictText      what `check` writes for the bytes of a history, and how it ends then
 --     IsVictimsText      what `victims` writes for them, and how it ends then
+--     IsSaveText, IsRestoreText      what `save` and `restore` write
 --     Answers      what a command writes for them, where it ends so
 --     IsNoText, IsFirstFault      that they are none of the texts which a command reads, and the number of the first line outside
 --     IsBadLine, IsLongLine, IsRefusal      what it writes for other bytes
@@ -25,14 +26,17 @@ use Rattle.history_lines.specs.declared.verdict.Verdict.TheVariants as verdict
 use Rattle.history_lines.specs.HistoryText as histories
 use Rattle.history_lines.specs.Checking.{IsVerdict}
 use Rattle.tlb_text.specs.EventText as events
+use Rattle.image_text.specs.ImageText as images
+use Rattle.image_text.specs.Images.{ImageParts}
+use Rattle.corten_run.specs.ImageAnswers.{IsSavedAs, IsRestoredAs}
 use Rattle.corten_run.specs.Solo.{solo_text}
 use Rattle.corten_run.specs.VictimText.{IsFound}
 use Rattle.corten_run.specs.Commands.{greatest_length}
 use Rattle.corten_run.specs.declared.command.Levels.{Levels}
 use Rattle.corten_run.specs.declared.command.Command.{Command}
-use Rattle.corten_run.specs.declared.command.Command.TheVariants.{Solo, Check, Victims, Tlb}
+use Rattle.corten_run.specs.declared.command.Command.TheVariants.{Solo, Check, Victims, Tlb, Save, Restore}
 use Rattle.corten_run.specs.declared.ending.Ending.{Ending}
-use Rattle.corten_run.specs.declared.ending.Ending.TheVariants.{Done, Refused, Usage, ReadFailed, WriteFailed, NoMemory, Illegal}
+use Rattle.corten_run.specs.declared.ending.Ending.TheVariants.{Done, Refused, Usage, ReadFailed, WriteFailed, NoMemory, Illegal, NotSaved}
 
 -- the bytes are a script's text, and this is the text of the one history of its calls with so many levels
 pub record IsSoloText (levels : Levels) (bytes written : List ℕ) : Type 0 where
@@ -71,12 +75,28 @@ pub record IsVictimsText (most : ℕ) (bytes : List ℕ) (ending : Ending) (writ
   pub fits : length bytes ≤ greatest_length (Victims most)
   pub found : IsFound most history ending written
 
+-- the bytes are a history's text, and this is the text for the space, with this ending
+pub record IsSaveText (space : ℕ) (bytes : List ℕ) (ending : Ending) (written : List ℕ) : Type 0 where
+  pub history : History
+  pub is_text : histories.IsHistoryText bytes history
+  pub fits : length bytes ≤ greatest_length (Save space)
+  pub found : IsSavedAs space history ending written
+
+-- the bytes are an image's text, and this is that of the history which builds it
+pub record IsRestoreText (bytes written : List ℕ) : Type 0 where
+  pub image : ImageParts
+  pub is_text : images.IsImageText bytes image
+  pub fits : length bytes ≤ greatest_length Restore
+  pub history : IsRestoredAs image written
+
 -- the whole text that a command writes where it ends so
 abbrev pub Answers : Command → List ℕ → Ending → List ℕ → Type 0
 Answers (Solo levels) bytes ending written = IsSoloText levels bytes written × (ending ≡ Done)
 Answers Check bytes ending written = IsVerdictText bytes ending written
 Answers (Victims most) bytes ending written = IsVictimsText most bytes ending written
 Answers Tlb bytes ending written = IsTlbText bytes written × (ending ≡ Done)
+Answers (Save space) bytes ending written = IsSaveText space bytes ending written
+Answers Restore bytes ending written = IsRestoreText bytes written × (ending ≡ Done)
 
 -- the bytes are not the text that a command reads
 abbrev pub IsNoText : Command → List ℕ → Type 0
@@ -84,6 +104,8 @@ IsNoText (Solo levels) bytes = (script : Script) → ¬ (scripts.IsScriptText by
 IsNoText Check bytes = (h : History) → ¬ (histories.IsHistoryText bytes h)
 IsNoText (Victims most) bytes = (h : History) → ¬ (histories.IsHistoryText bytes h)
 IsNoText Tlb bytes = ¬ (events.IsEventText bytes)
+IsNoText (Save space) bytes = (h : History) → ¬ (histories.IsHistoryText bytes h)
+IsNoText Restore bytes = (image : ImageParts) → ¬ (images.IsImageText bytes image)
 
 -- the number of the first line outside the grammar of the texts that a command reads
 abbrev pub IsFirstFault : Command → List ℕ → ℕ → Type 0
@@ -91,6 +113,8 @@ IsFirstFault (Solo levels) = scripts.IsFirstFault
 IsFirstFault Check = histories.IsFirstFault
 IsFirstFault (Victims most) = histories.IsFirstFault
 IsFirstFault Tlb = events.IsFirstFault
+IsFirstFault (Save space) = histories.IsFirstFault
+IsFirstFault Restore = images.IsFirstFault
 
 -- the bytes are no text that the command reads, and the line names the first line outside the grammar
 pub record IsBadLine (command : Command) (bytes written : List ℕ) : Type 0 where
@@ -138,6 +162,8 @@ abbrev pub CommandEnds : Command → List ℕ → Sides → Ending → Type 0
 CommandEnds command bytes s Done = (written : List ℕ) × Answers command bytes Done written × HasWritten s.held s.held_now written × IsAtEnd s.left_now
 -- the same, where what was read is a history that is not legal
 CommandEnds command bytes s Illegal = (written : List ℕ) × Answers command bytes Illegal written × HasWritten s.held s.held_now written × IsAtEnd s.left_now
+-- the same, where the space has no image
+CommandEnds command bytes s NotSaved = (written : List ℕ) × Answers command bytes NotSaved written × HasWritten s.held s.held_now written × IsAtEnd s.left_now
 -- the bytes are no such text
 CommandEnds command bytes s Refused = (written : List ℕ) × IsRefusal command bytes written × IsSaid s written
 -- a read failed, and nothing was written

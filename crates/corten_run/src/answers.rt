@@ -7,18 +7,21 @@ ghost use Rattle.history_lines.specs.Outcomes.{IsWritten};
 ghost use Rattle.corten_run.specs.declared.command.Command.TheVariants as command;
 ghost use Rattle.corten_run.specs.declared.command.Command.{Command};
 ghost use Rattle.corten_run.specs.declared.ending.Ending.{Ending};
-ghost use Rattle.corten_run.specs.Commands.{ReadsHistory, greatest_length};
+ghost use Rattle.corten_run.specs.Commands.{ReadsHistory, Saves, greatest_length};
 ghost use Rattle.corten_run.specs.Endings as definitions;
 ghost use Rattle.corten_run.specs.Endings.{verdict_line, CommandEnds};
 
 use crate::command::{Command, Levels};
 use crate::ending::Ending;
+use crate::images::save_space;
 use crate::script_run::write_solo;
 use crate::victims::find_victims;
 use byte_streams::write_whole;
-use corten_base::Sink;
-use history_text::{Verdict, Written, check, read_history};
+use corten_base::{Sink, SpaceId};
+use history_text::{Verdict, Written, check, read_history, write_history};
+use image_text::read_image;
 use mm_script::{ScriptFault, read_script};
+use space_image::restore;
 use std::alloc::{AllocError, Global};
 use text_words::push_number;
 use tlb_text::answer_events;
@@ -88,6 +91,7 @@ fn answer_script<K: Sink>(alloc: Global, levels: Levels, bytes: &[u8], sink: &mu
     }) result }
     ensures read { result ≢ Ending.ReadFailed }
     ensures other { result ≢ Ending.Illegal }
+    ensures unsaved { result ≢ Ending.NotSaved }
     ensures write_fault { result ≡ Ending.WriteFailed
         → Rises (K.faults sink.old) (K.faults sink.new) }
 {
@@ -115,6 +119,7 @@ fn answer_history<K: Sink>(alloc: Global, bytes: &[u8], sink: &mut K) -> Ending
       write_faults_now = K.faults sink.new;
     }) result }
     ensures read { result ≢ Ending.ReadFailed }
+    ensures unsaved { result ≢ Ending.NotSaved }
     ensures write_fault { result ≡ Ending.WriteFailed
         → Rises (K.faults sink.old) (K.faults sink.new) }
 {
@@ -146,6 +151,7 @@ fn answer_victims<K: Sink>(alloc: Global, most: u16, bytes: &[u8], sink: &mut K)
       write_faults_now = K.faults sink.new;
     }) result }
     ensures read { result ≢ Ending.ReadFailed }
+    ensures unsaved { result ≢ Ending.NotSaved }
     ensures write_fault { result ≡ Ending.WriteFailed
         → Rises (K.faults sink.old) (K.faults sink.new) }
 {
@@ -178,6 +184,7 @@ fn answer_caches<K: Sink>(alloc: Global, bytes: &[u8], sink: &mut K) -> Ending
     }) result }
     ensures read { result ≢ Ending.ReadFailed }
     ensures other { result ≢ Ending.Illegal }
+    ensures unsaved { result ≢ Ending.NotSaved }
     ensures write_fault { result ≡ Ending.WriteFailed
         → Rises (K.faults sink.old) (K.faults sink.new) }
 {
@@ -191,6 +198,78 @@ fn answer_caches<K: Sink>(alloc: Global, bytes: &[u8], sink: &mut K) -> Ending
         }
         Err(ScriptFault::Bad(line)) => refuse(alloc, line, sink),
         Err(ScriptFault::NoMemory) => Ending::NoMemory,
+    }
+}
+
+/// Saves a space of the history whose text the bytes are.
+fn answer_save<K: Sink>(alloc: Global, space: SpaceId, bytes: &[u8], sink: &mut K) -> Ending
+    requires { length bytes.now ≤ greatest_length (command.Save space) }
+    ensures ends { CommandEnds (command.Save space) bytes.now (record {
+      left_now = Some [];
+      read_faults = 0;
+      read_faults_now = 0;
+      held = K.held sink.old;
+      held_now = K.held sink.new;
+      write_faults = K.faults sink.old;
+      write_faults_now = K.faults sink.new;
+    }) result }
+    ensures read { result ≢ Ending.ReadFailed }
+    ensures write_fault { result ≡ Ending.WriteFailed
+        → Rises (K.faults sink.old) (K.faults sink.new) }
+{
+    let history = match read_history(alloc, bytes) {
+        Ok(history) => history,
+        Err(ScriptFault::Bad(line)) => return refuse(alloc, line, sink),
+        Err(ScriptFault::NoMemory) => return Ending::NoMemory,
+    };
+    let Ok((ending, text)) = save_space(alloc, &history, space) else {
+        return Ending::NoMemory;
+    };
+    if write_whole(sink, text.bytes()) {
+        ending
+    } else {
+        Ending::WriteFailed
+    }
+}
+
+/// Restores the image whose text the bytes are.
+fn answer_restore<K: Sink>(alloc: Global, bytes: &[u8], sink: &mut K) -> Ending
+    requires { length bytes.now ≤ greatest_length command.Restore }
+    ensures ends { CommandEnds command.Restore bytes.now (record {
+      left_now = Some [];
+      read_faults = 0;
+      read_faults_now = 0;
+      held = K.held sink.old;
+      held_now = K.held sink.new;
+      write_faults = K.faults sink.old;
+      write_faults_now = K.faults sink.new;
+    }) result }
+    ensures read { result ≢ Ending.ReadFailed }
+    ensures other { result ≢ Ending.Illegal }
+    ensures unsaved { result ≢ Ending.NotSaved }
+    ensures write_fault { result ≡ Ending.WriteFailed
+        → Rises (K.faults sink.old) (K.faults sink.new) }
+{
+    let image = match read_image(alloc, bytes) {
+        Ok(image) => image,
+        Err(ScriptFault::Bad(line)) => return refuse(alloc, line, sink),
+        Err(ScriptFault::NoMemory) => return Ending::NoMemory,
+    };
+    let Ok(history) = restore(alloc, &image) else {
+        return Ending::NoMemory;
+    };
+    let entries = history.entries.list();
+    match write_history(
+        alloc,
+        history.limits,
+        &history.shelf,
+        entries,
+        &history.accounts,
+        sink,
+    ) {
+        Written::Whole => Ending::Done,
+        Written::Failed => Ending::WriteFailed,
+        Written::NoMemory => Ending::NoMemory,
     }
 }
 
@@ -208,6 +287,7 @@ pub(crate) fn answer<K: Sink>(alloc: Global, command: Command, bytes: &[u8], sin
     }) result }
     ensures read { result ≢ Ending.ReadFailed }
     ensures illegal { result ≡ Ending.Illegal → ReadsHistory command }
+    ensures not_saved { result ≡ Ending.NotSaved → Saves command }
     ensures write_fault { result ≡ Ending.WriteFailed
         → Rises (K.faults sink.old) (K.faults sink.new) }
 {
@@ -216,5 +296,7 @@ pub(crate) fn answer<K: Sink>(alloc: Global, command: Command, bytes: &[u8], sin
         Command::Check => answer_history(alloc, bytes, sink),
         Command::Victims(most) => answer_victims(alloc, most, bytes, sink),
         Command::Tlb => answer_caches(alloc, bytes, sink),
+        Command::Save(space) => answer_save(alloc, space, bytes, sink),
+        Command::Restore => answer_restore(alloc, bytes, sink),
     }
 }

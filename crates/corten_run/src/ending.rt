@@ -19,6 +19,8 @@ pub enum Ending {
     NoMemory,
     /// The history read is not legal, and a line says where.
     Illegal,
+    /// The space has no image, and a line says why.
+    NotSaved,
 }
 
 impl Ending {
@@ -34,6 +36,7 @@ impl Ending {
             Ending::WriteFailed => 4,
             Ending::NoMemory => 5,
             Ending::Illegal => 6,
+            Ending::NotSaved => 8,
         }
     }
 }

@@ -4,6 +4,7 @@
 mod answers;
 mod command;
 mod ending;
+mod images;
 mod laws;
 mod script_run;
 mod top;

@@ -9,13 +9,16 @@ ghost use Rattle.history_lines.specs.declared.verdict.Verdict.{Verdict};
 ghost use Rattle.history_lines.specs.HistoryText.{IsHistoryText};
 ghost use Rattle.history_lines.specs.Checking.{IsVerdict};
 ghost use Rattle.tlb_text.specs.EventText.{IsEventText};
+ghost use Rattle.image_text.specs.Images.{ImageParts};
+ghost use Rattle.image_text.specs.ImageText.{IsImageText};
 ghost use Rattle.corten_run.specs.declared.command.Levels.{Levels};
 ghost use Rattle.corten_run.specs.declared.command.Command.{Command};
 ghost use Rattle.corten_run.specs.declared.command.Command.TheVariants as command;
 ghost use Rattle.corten_run.specs.declared.ending.Ending.{Ending};
 ghost use Rattle.corten_run.specs.Commands as definitions;
-ghost use Rattle.corten_run.specs.Commands.{Names, ReadsHistory, usage_line};
+ghost use Rattle.corten_run.specs.Commands.{Names, ReadsHistory, Saves, usage_line};
 ghost use Rattle.corten_run.specs.Statuses.{status_of};
+ghost use Rattle.corten_run.specs.ImageAnswers.{IsStatusOfSave};
 ghost use Rattle.corten_run.specs.Endings.{IsSaid, IsNoText, ending_of, CommandEnds};
 
 use crate::answers::answer;
@@ -25,7 +28,8 @@ use byte_streams::{ReadWhole, read_whole, write_whole};
 use corten_base::{Sink, Source};
 use std::alloc::Global;
 
-const USAGE: &[u8] = b"usage: cortenmm solo [5] | check | run [5] | load N K | victims N | tlb\n";
+const USAGE: &[u8] =
+    b"usage: cortenmm solo [5] | check | run [5] | load N K | victims N | tlb | save S | restore\n";
 
 /// Reads a source whole, and answers what was read.
 fn serve<S: Source, K: Sink>(
@@ -49,8 +53,9 @@ fn serve<S: Source, K: Sink>(
         → Rises (K.faults sink.old) (K.faults sink.new) }
     ensures words { result ≢ Ending.Usage }
     ensures illegal { result ≡ Ending.Illegal → ReadsHistory command }
+    ensures not_saved { result ≡ Ending.NotSaved → Saves command }
 {
-    match read_whole(alloc, source, greatest_length(command)) {
+    match read_whole(alloc, source, greatest_length(&command)) {
         Ok(ReadWhole::All(bytes)) => answer(alloc, command, bytes.as_slice(), sink),
         Ok(ReadWhole::TooLong) => {
             let _ = write_whole(sink, b"long\n");
@@ -130,6 +135,22 @@ pub fn corten_plain<S: Source, K: Sink>(
         → IfSome (S.left source.old) (λ bytes. IsEventText bytes
         → length bytes ≤ definitions.greatest_length command.Tlb
         → (result ≡ 0) ⊎ (result ≡ 5)) }
+    // The space of a history within its length is saved if it has an image, and else a line says why not.
+    ensures saves { (space : ℕ) (history : History)
+        → Names (map string_bytes words.now) (command.Save space)
+        → ¬ (Rises (S.faults source.old) (S.faults source.new))
+        → ¬ (Rises (K.faults sink.old) (K.faults sink.new))
+        → IfSome (S.left source.old) (λ bytes. IsHistoryText bytes history
+        → length bytes ≤ definitions.greatest_length (command.Save space)
+        → IsStatusOfSave space history result ⊎ (result ≡ 5)) }
+    // An image within its length is restored.
+    ensures restores { (image : ImageParts)
+        → Names (map string_bytes words.now) command.Restore
+        → ¬ (Rises (S.faults source.old) (S.faults source.new))
+        → ¬ (Rises (K.faults sink.old) (K.faults sink.new))
+        → IfSome (S.left source.old) (λ bytes. IsImageText bytes image
+        → length bytes ≤ definitions.greatest_length command.Restore
+        → (result ≡ 0) ⊎ (result ≡ 5)) }
     // Other bytes are refused.
     ensures refuses { (command : Command) → Names (map string_bytes words.now) command
         → ¬ (Rises (S.faults source.old) (S.faults source.new))
@@ -139,7 +160,9 @@ pub fn corten_plain<S: Source, K: Sink>(
     // What is found not to be legal is a history.
     ensures illegal { result ≡ 6
         → (command : Command) × Names (map string_bytes words.now) command × ReadsHistory command }
-    ensures status { result ≤ 6 }
+    ensures not_saved { result ≡ 8
+        → (space : ℕ) × Names (map string_bytes words.now) (command.Save space) }
+    ensures status { (result ≤ 6) ⊎ (result ≡ 8) }
 {
     let Some(command) = read_command(words) else {
         let _ = write_whole(sink, USAGE);

@@ -18,7 +18,18 @@ const FIVE: &str =
 const ILLEGAL: &str =
     "corten 1\nframes 2\ntables 4\nswap 1\n0 map 0 any 1 rw- zero = at 0x8000000000\nframes 2 free 2 mapped 0\nswap 1 free 1 used 0\ntables 4 linked 4 limbo 1\n";
 
-const USAGE: &str = "usage: cortenmm solo [5] | check | run [5] | load N K | victims N | tlb\n";
+const USAGE: &str =
+    "usage: cortenmm solo [5] | check | run [5] | load N K | victims N | tlb | save S | restore\n";
+
+/// The image that HISTORY leaves of space 0.
+const IMAGE: &str =
+    "image 1\nframes 2\ntables 8\nswap 1\npage 0x8000000000 rw- zero live 6869\nend\n";
+
+/// A run, and what builds it.
+const RUN: &str = "image 1\nframes 2\ntables 8\nswap 1\nrun 0x8000000000 2 r-- zero\nend\n";
+
+const BUILT: &str =
+    "corten 2\nframes 2\ntables 8\nswap 1\n0 map 0 at 0x8000000000 8192 r-- zero = at 0x8000000000\nframes 2 free 2 mapped 0\nswap 1 free 1 used 0\ntables 8 linked 4 limbo 0\n";
 
 /// Devices that move so many bytes a call, and at least one, and whose calls with these numbers fail.
 #[derive(Clone, Copy)]
@@ -73,7 +84,7 @@ struct Row {
     wanted: &'static str,
 }
 
-const ROWS: [Row; 11] = [
+const ROWS: [Row; 18] = [
     Row {
         words: &["solo"],
         text: SCRIPT,
@@ -150,6 +161,55 @@ const ROWS: [Row; 11] = [
         devices: LARGE,
         status: 6,
         wanted: "illegal 8\n",
+    },
+    Row {
+        words: &["save", "0"],
+        text: HISTORY,
+        devices: BYTEWISE,
+        status: 0,
+        wanted: IMAGE,
+    },
+    Row {
+        words: &["save", "1"],
+        text: HISTORY,
+        devices: LARGE,
+        status: 8,
+        wanted: "nospace\n",
+    },
+    Row {
+        words: &["save", "0"],
+        text: ILLEGAL,
+        devices: LARGE,
+        status: 6,
+        wanted: "illegal 8\n",
+    },
+    Row {
+        words: &["save", "0"],
+        text: HISTORY,
+        devices: THIRD_WRITE_FAILS,
+        status: 4,
+        wanted: "image 1\nframes 2\ntables 8\nswap 1",
+    },
+    Row {
+        words: &["restore"],
+        text: RUN,
+        devices: BYTEWISE,
+        status: 0,
+        wanted: BUILT,
+    },
+    Row {
+        words: &["restore"],
+        text: HISTORY,
+        devices: LARGE,
+        status: 1,
+        wanted: "bad 1\n",
+    },
+    Row {
+        words: &["restore"],
+        text: RUN,
+        devices: FIRST_READ_FAILS,
+        status: 3,
+        wanted: "",
     },
 ];
 

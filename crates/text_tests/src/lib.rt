@@ -7,6 +7,8 @@ mod commands;
 #[cfg(test)]
 mod histories;
 #[cfg(test)]
+mod images;
+#[cfg(test)]
 mod scripts;
 #[cfg(test)]
 mod words;

@@ -47,3 +47,33 @@ returns-in-Tlb-clause-ends g c =
       write_faults_now = faults c.answer_caches.new.sink;
     } in
     subst (λ k. CommandEnds k c.args.bytes.now sides c.answer_caches.result) (sym c.in-Tlb.is) c.answer_caches.ensures.ends
+
+pub returns-in-Save-clause-ends : goal.returns-in-Save-clause-ends
+returns-in-Save-clause-ends g c =
+    let held = g.K.Sink.held in
+    let faults = g.K.Sink.faults in
+    let sides : Sides = record {
+      left_now = Some [];
+      read_faults = 0;
+      read_faults_now = 0;
+      held = held c.args.sink.now;
+      held_now = held c.answer_save.new.sink;
+      write_faults = faults c.args.sink.now;
+      write_faults_now = faults c.answer_save.new.sink;
+    } in
+    subst (λ k. CommandEnds k c.args.bytes.now sides c.answer_save.result) (sym c.in-Save.is) c.answer_save.ensures.ends
+
+pub returns-in-Restore-clause-ends : goal.returns-in-Restore-clause-ends
+returns-in-Restore-clause-ends g c =
+    let held = g.K.Sink.held in
+    let faults = g.K.Sink.faults in
+    let sides : Sides = record {
+      left_now = Some [];
+      read_faults = 0;
+      read_faults_now = 0;
+      held = held c.args.sink.now;
+      held_now = held c.answer_restore.new.sink;
+      write_faults = faults c.args.sink.now;
+      write_faults_now = faults c.answer_restore.new.sink;
+    } in
+    subst (λ k. CommandEnds k c.args.bytes.now sides c.answer_restore.result) (sym c.in-Restore.is) c.answer_restore.ensures.ends

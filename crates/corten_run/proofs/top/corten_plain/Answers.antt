@@ -1,6 +1,8 @@
 -- Other words name no command; the status is that of the ending.
-use Rattle.corten_run.specs.declared.command.Command.TheVariants.{Solo, Check, Victims, Tlb}
-use Rattle.corten_run.proofs.Told.{told_named, done_named, refused_named, judged_named, found_named, answered_named, one_command}
+use Rattle.corten_run.specs.declared.command.Command.TheVariants.{Solo, Check, Victims, Tlb, Save, Restore}
+use Rattle.corten_run.proofs.Told.{told_named, done_named, refused_named, judged_named, found_named, answered_named}
+use Rattle.corten_run.proofs.OneCommand.{one_command}
+use Rattle.corten_run.proofs.ImageEndings.{saved_named, restored_named, only_save, few_statuses}
 use Rattle.corten_run.proofs.top.corten_plain.Goals as goal
 
 pub returns-in_default-clause-complete : goal.returns-in_default-clause-complete
@@ -44,3 +46,23 @@ returns-clause-answers_events g c = λ named quiet silent.
 pub returns-clause-refuses : goal.returns-clause-refuses
 returns-clause-refuses g c = λ command named quiet.
     refused_named c.in-Some.command command (one_command _ c.in-Some.command command c.in-Some.ensures.found named) _ _ c.serve.result c.status-2.result c.status-2.ensures c.serve.ensures.told quiet
+
+pub returns-in_default-clause-saves : goal.returns-in_default-clause-saves
+returns-in_default-clause-saves g c = λ space history named quiet silent. absurd (c.in_default.ensures.none (Save space) named)
+
+pub returns-clause-saves : goal.returns-clause-saves
+returns-clause-saves g c = λ space history named quiet silent.
+    saved_named c.in-Some.command space (one_command _ c.in-Some.command (Save space) c.in-Some.ensures.found named) _ history _ c.serve.result c.status-2.result c.status-2.ensures c.serve.ensures.told quiet silent
+
+pub returns-in_default-clause-restores : goal.returns-in_default-clause-restores
+returns-in_default-clause-restores g c = λ image named quiet silent. absurd (c.in_default.ensures.none Restore named)
+
+pub returns-clause-restores : goal.returns-clause-restores
+returns-clause-restores g c = λ image named quiet silent.
+    restored_named c.in-Some.command (one_command _ c.in-Some.command Restore c.in-Some.ensures.found named) _ image _ c.serve.result c.status-2.result c.status-2.ensures c.serve.ensures.told quiet silent
+
+pub returns-clause-not_saved : goal.returns-clause-not_saved
+returns-clause-not_saved g c = only_save _ c.in-Some.command c.serve.result c.status-2.result c.in-Some.ensures.found c.serve.ensures.not_saved c.status-2.ensures
+
+pub returns-clause-status : goal.returns-clause-status
+returns-clause-status g c = few_statuses c.serve.result c.status-2.result c.status-2.ensures
