@@ -4,3 +4,4 @@ pub mod Runs
 pub mod Resizing
 pub mod Pieces
 pub mod Listing
+pub mod Gaps

@@ -1,6 +1,7 @@
 //! Where a range of free pages begins.
-ghost use Rattle.std.specs.Prelude.{◌≡◌, ◌+◌, ◌^◌, ◌<◌};
+ghost use Rattle.std.specs.Prelude.{◌≡◌, ◌+◌, ◌^◌, ◌<◌, ◌≤◌, IfSome};
 ghost use Rattle.machine_plan.specs.HeldRows.{AnswersGap};
+ghost use Rattle.held_spans.specs.Gaps.{IsWithin};
 
 use crate::near::{Near, span_near};
 use corten_base::Range;
@@ -11,7 +12,8 @@ use tree_lock::Held;
 pub(crate) fn gap_in(held: &Held<Cells>, first: u64, pages: u64, count: u64) -> Option<u64>
     requires some { 0 < count }
     requires fits { first + pages < 2 ^ 64 }
-    ensures { AnswersGap held.now.rows first pages count result }
+    ensures answers { AnswersGap held.now.rows first pages count result }
+    ensures inside { IfSome result (IsWithin first pages count) }
 {
     let mut near = Near::new();
     let end = first + pages;
@@ -33,7 +35,8 @@ pub(crate) fn gap_in(held: &Held<Cells>, first: u64, pages: u64, count: u64) -> 
 /// The least page of an arena at which so many free pages of it begin.
 pub fn first_gap(held: &Held<Cells>, arena: &Range, count: u64) -> Option<u64>
     requires some { 0 < count }
-    ensures { AnswersGap held.now.rows arena.now.first arena.now.count count result }
+    ensures answers { AnswersGap held.now.rows arena.now.first arena.now.count count result }
+    ensures inside { IfSome result (IsWithin arena.now.first arena.now.count count) }
 {
     gap_in(held, arena.first(), arena.count(), count)
 }

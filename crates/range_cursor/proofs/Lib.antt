@@ -18,3 +18,7 @@ pub mod Wider
 pub mod SpacePlans
 pub mod Few
 pub mod MapPlans
+pub mod Undone
+pub mod Anywhere
+pub mod Resizes
+pub mod Joined

@@ -6,3 +6,7 @@ pub mod PageRanges
 pub mod Moves
 pub mod Spaces
 pub mod Mapped
+pub mod Transactions
+pub mod Arena
+pub mod Resized
+pub mod Joined

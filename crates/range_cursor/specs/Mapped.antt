@@ -1,6 +1,8 @@
--- Mappings at an address.
---     fixed      its place in the page map's words, by whether it needs pages without mappings
---     is_fixed      whether a call maps at an address
+-- Mappings.
+--     fixed      the place of one at an address in the page map's words, by whether it needs pages without mappings
+--     is_mapping      whether a call maps pages
+--     map_call      the call that makes a mapping at a place
+--     WhereMappable      what is so where its length and backing are right
 --     AnswersMapped      what refuses it for a page that is mapped
 use Rattle.std.specs.Prelude.{◌≡◌, ℕ, ◌*◌, Bool, true, false, cond, List, is_some, Option, None}
 use Rattle.std.specs.Option.{option_map}
@@ -11,8 +13,10 @@ use Rattle.corten_base.specs.declared.calls.MapPlace.TheVariants as place
 use Rattle.corten_base.specs.declared.calls.Reply.{Reply}
 use Rattle.corten_base.specs.declared.calls.Reply.TheVariants as reply
 use Rattle.page_map.specs.Change.{least}
+use Rattle.page_map.specs.Mapping.{is_mappable}
 use Rattle.page_map.specs.State.{State, cell_at}
 use Rattle.machine_plan.specs.HeldRows.{Row, RowsShown, AreAsked}
+use Rattle.range_cursor.specs.declared.mapping.Mapping.{Mapping}
 
 abbrev pub fixed : Bool → ℕ → MapPlace
 fixed true at = place.New at
@@ -23,7 +27,12 @@ abbrev pub AnswersMapped : List Row → Bool → ℕ → ℕ → Option Reply �
 AnswersMapped rows fresh first count answer =
     (st : State) (space : ℕ) → AreAsked space rows first count → RowsShown st rows → answer ≡ option_map (λ page. reply.Exists (4096 * page)) (cond fresh (least first count (λ page. is_some (cell_at st space page))) None)
 
-abbrev pub is_fixed : Call → Bool
-is_fixed (call.Map space (place.At at) len perm what) = true
-is_fixed (call.Map space (place.New at) len perm what) = true
-is_fixed _ = false
+abbrev pub map_call : Mapping → MapPlace → Call
+map_call m where_to = call.Map m.space where_to m.len m.perm m.backing
+
+abbrev pub WhereMappable : ℕ → Mapping → (List (List ℕ) → Type 0) → Type 0
+WhereMappable depth m holds = (files : List (List ℕ)) → is_mappable depth files m.len m.backing ≡ true → holds files
+
+abbrev pub is_mapping : Call → Bool
+is_mapping (call.Map space where_to len perm what) = true
+is_mapping _ = false

@@ -118,3 +118,7 @@ PlansFor depth needed c rows kit rows' kit' =
 -- the same for a call that names a file
 abbrev pub PlansOn : List (List ℕ) → ℕ → ℕ → Call → List Row → Kit → List Row → Kit → Type 0
 PlansOn files depth needed c rows kit rows' kit' = (b : BookData) (thread : ℕ) → thread < 8 → IsPlannable b thread c depth files rows kit → Needs b thread c needed → Plans b thread c rows kit rows' kit'
+
+-- the same for a thread whose arena is known
+abbrev pub PlansBy : ℕ → List (List ℕ) → ℕ → ℕ → Call → List Row → Kit → List Row → Kit → Type 0
+PlansBy thread files depth needed c rows kit rows' kit' = (b : BookData) → IsPlannable b thread c depth files rows kit → Needs b thread c needed → Plans b thread c rows kit rows' kit'

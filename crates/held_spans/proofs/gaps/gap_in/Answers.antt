@@ -2,8 +2,8 @@ use Rattle.std.proofs.Common.{◌+◌, ◌∙◌, sym, arith}
 use Rattle.held_spans.proofs.Gaping.{behind_used, behind_free, gap_found, no_gap}
 use Rattle.held_spans.proofs.gaps.gap_in.Goals as goal
 
-pub returns-then-next-run : goal.returns-then-next-run
-returns-then-next-run c =
+pub returns-then-next-run-clause-answers : goal.returns-then-next-run-clause-answers
+returns-then-next-run-clause-answers c =
     let next = c.loop-run.page + c.min.result in
     gap_found c.args.held.now.rows c.args.first c.args.pages c.args.count c.loop-run.run next
     (behind_free c.args.held.now.rows c.args.first c.args.pages c.args.count c.loop-run.run c.loop-run.page next c.loop-run.invariant.walked c.loop-run.invariant.from
@@ -33,6 +33,6 @@ loop-run-preserved c = record {
       (sym c.is_there.ensures ∙ c.if-is_there.false);
 }
 
-pub returns : goal.returns
-returns c =
+pub returns-clause-answers : goal.returns-clause-answers
+returns-clause-answers c =
     no_gap c.args.held.now.rows c.args.first c.args.pages c.args.count c.loop-run.run c.loop-run.page c.loop-run.invariant.walked (omega arith)

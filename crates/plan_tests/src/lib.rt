@@ -1,0 +1,8 @@
+//! Tests of the plans of calls over held rows.
+#![tactic(auto)]
+
+mod references;
+#[cfg(test)]
+mod transactions;
+
+pub use references::has_no_references;
