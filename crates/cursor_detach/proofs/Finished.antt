@@ -193,6 +193,7 @@ module _ {B E : Type 0} (a b : BookData) (thread : ℕ) (c : Call) (v : View B E
   detached = record {
     view = is.view ∙ (λ i. record v { core = record v.core { held = w.core.held; unlinked = sym unlinked_are i }; rows = w.rows });
     exact = is.exact;
+    from = λ y has. let t = is.each y has in (t.old, t.was, t.same_row, t.same_place);
     kit_is = is.kit_is;
     room = is.room ready.committed.commits.room;
     gone = listed_gone;

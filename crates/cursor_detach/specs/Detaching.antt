@@ -54,10 +54,11 @@ module _ {B E : Type 0} where
     pub few : thread < 8
     pub committed : IsCommitted a b thread c kit
 
-  -- The rows of removed positions are unlinked, marked and listed. `Leaves` says of each other row that it is still held, and of its links that they were there and lead to tables that are left.
+  -- The rows of removed positions are unlinked, marked and listed; each row that is left was in the list. `Leaves` says of each other row that it is still held, and of its links that they were there and lead to tables that are left.
   pub record Detached (a b : BookData) (thread : ℕ) (c : Call) (v w : PassView (List Cell) B E) (rows rows' : List Row) (kit kit' : Kit) : Type 0 where
     pub view : w ≡ record v { core = record v.core { held = w.core.held; unlinked = w.core.unlinked }; rows = w.rows }
     pub exact : HoldsExactly rows' w.core.held w.rows
+    pub from : (y : Row) → Contains rows' y → (x : Row) × Contains rows x × (x.row ≡ y.row) × (x.place ≡ y.place)
     pub kit_is : kit' ≡ record kit { gone = kit'.gone }
     pub room : HasRoom kit'
     pub gone : (row : ℕ) → Contains kit'.gone.items row ↔ ((x : Row) × Contains rows x × (x.row ≡ row) × IsRemoved (state_of a) (state_of b) x.place)
