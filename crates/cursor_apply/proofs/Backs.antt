@@ -4,7 +4,7 @@
 use Rattle.std.specs.Prelude.{◌≡◌, ℕ, ◌+◌, ◌<◌, false, List, [], ◌∷◌, ◌++◌, map, length, slice_index, Option, Some, None, IsSome, is_some}
 use Rattle.std.specs.List.{All, Contains, zip}
 use Rattle.std.specs.Option.{option_to_list}
-use Rattle.std.proofs.Common.{sym, refl, ◌∙◌, ap, subst, arith, inl, inr, length-append}
+use Rattle.std.proofs.Common.{sym, refl, ◌∙◌, ap, subst, arith, inl, inr, length-append, append_assoc}
 use Rattle.std.proofs.lemmas.Bool.{true≢false}
 use Rattle.std.proofs.lemmas.List.{map-append}
 use Rattle.std.proofs.lemmas.List.Elements.{All-nil, All-cons, All-head, All-tail, All-same, All-contains, Contains-push}
@@ -43,20 +43,20 @@ zip_push [] (b ∷ bs) x y same = absurd (omega arith)
 zip_push (a ∷ more) [] x y same = absurd (omega arith)
 zip_push {X} {Y} (a ∷ more) (b ∷ bs) x y same = ap (λ (l : List (X × Y)). (a, b) ∷ l) (zip_push more bs x y (omega arith))
 
--- what is left to be put back
-pub record FramesLeft (b : BookData) (space : ℕ) (known : List (KnownRow (List Cell))) (slots : List ℕ) (frames : Refs) (seconds : Seconds) (rows : List Row) : Type 0 where
+-- what is left to be put back, beside the pages of another list
+pub record FramesLeft (b : BookData) (space : ℕ) (known : List (KnownRow (List Cell))) (more slots : List ℕ) (frames : Refs) (seconds : Seconds) (rows : List Row) : Type 0 where
   pub consistent : IsConsistent (state_of b)
   pub refs : AreRefs (state_of b) space frame_of frames
   pub backable : 0 < length frames → AreBackable b.frames frames seconds
   pub of_space : 0 < length frames → AreOf space rows
-  pub short : AreShort b known (pages_of frames) slots rows
+  pub short : AreShort b known (more ++ pages_of frames) slots rows
 
-pub record SlotsLeft (b : BookData) (space : ℕ) (known : List (KnownRow (List Cell))) (frames : List ℕ) (slots : Refs) (seconds : Seconds) (rows : List Row) : Type 0 where
+pub record SlotsLeft (b : BookData) (space : ℕ) (known : List (KnownRow (List Cell))) (more frames : List ℕ) (slots : Refs) (seconds : Seconds) (rows : List Row) : Type 0 where
   pub consistent : IsConsistent (state_of b)
   pub refs : AreRefs (state_of b) space slot_of slots
   pub backable : 0 < length slots → AreBackable b.slots slots seconds
   pub of_space : 0 < length slots → AreOf space rows
-  pub short : AreShort b known frames (pages_of slots) rows
+  pub short : AreShort b known frames (more ++ pages_of slots) rows
 
 -- of the last reference and the last second body
 module _ (counts : PageCounts) (refs refs' : Refs) (seconds seconds' : Seconds) (page : ℕ) (r : CountedPage) (second : Option (PageBody × Option (List ℕ))) (was : refs ≡ refs' ++ (page, r) ∷ []) (were : seconds ≡ seconds' ++ option_to_list second) (full : 0 < length seconds → IsSome second) where
@@ -112,12 +112,15 @@ ref_again st space number_of page r (Some spare) is = record { cell = is.cell; t
 pages_push : (refs : Refs) (page : ℕ) (r : CountedPage) → pages_of (refs ++ (page, r) ∷ []) ≡ pages_of refs ++ page ∷ []
 pages_push refs page r = map-append (λ (x : ℕ × CountedPage). x.0) refs ((page, r) ∷ [])
 
-module _ (b : BookData) (space : ℕ) (known : List (KnownRow (List Cell))) (others : List ℕ) (refs refs' : Refs) (seconds seconds' : Seconds) (rows rows' : List Row) (page : ℕ) (r : CountedPage) (second : Option (PageBody × Option (List ℕ)))
+module _ (b : BookData) (space : ℕ) (known : List (KnownRow (List Cell))) (more others : List ℕ) (refs refs' : Refs) (seconds seconds' : Seconds) (rows rows' : List Row) (page : ℕ) (r : CountedPage) (second : Option (PageBody × Option (List ℕ)))
     (was : refs ≡ refs' ++ (page, r) ∷ []) (were : seconds ≡ seconds' ++ option_to_list second) (full : 0 < length seconds → IsSome second) where
   is_of : {P : Type 0} → (0 < length refs → P) → P
   is_of of_space = of_space (let a = ap length was in let f = length-append refs' ((page, r) ∷ []) in omega arith)
 
-  pub frame_back : (own : CountedPage) → own ≡ owned_again r (brought second) → FramesLeft b space known others refs seconds rows → IsPut page (reference.Frame own) rows rows' → FramesLeft b space known others refs' seconds' rows'
+  behind : more ++ pages_of refs ≡ (more ++ pages_of refs') ++ page ∷ []
+  behind = ap (λ (l : List ℕ). more ++ l) (ap pages_of was ∙ pages_push refs' page r) ∙ sym (append_assoc more (pages_of refs') (page ∷ []))
+
+  pub frame_back : (own : CountedPage) → own ≡ owned_again r (brought second) → FramesLeft b space known more others refs seconds rows → IsPut page (reference.Frame own) rows rows' → FramesLeft b space known more others refs' seconds' rows'
   frame_back own is left put =
       let ref = all_last (λ (x : ℕ × CountedPage). IsRefOf (state_of b) space frame_of x.0 x.1) refs' (page, r) (All-same (λ (x : ℕ × CountedPage). IsRefOf (state_of b) space frame_of x.0 x.1) (refs' ++ (page, r) ∷ []) refs (sym was) left.refs) in
       let now = subst (IsRefOf (state_of b) space frame_of page) (sym is) (ref_again (state_of b) space frame_of page r (brought second) ref) in
@@ -127,13 +130,13 @@ module _ (b : BookData) (space : ℕ) (known : List (KnownRow (List Cell))) (oth
         refs = all_front (λ (x : ℕ × CountedPage). IsRefOf (state_of b) space frame_of x.0 x.1) refs' (page, r) (All-same (λ (x : ℕ × CountedPage). IsRefOf (state_of b) space frame_of x.0 x.1) (refs' ++ (page, r) ∷ []) refs (sym was) left.refs);
         backable = λ _. backable_less b.frames refs refs' seconds seconds' page r second was were full (is_of left.backable);
         of_space = λ _. of_space_now page space (reference.Frame own) rows rows' put (is_of left.of_space);
-        short = rows_put b left.consistent space page known (reference.Frame own) rows rows' put (is_of left.of_space) (pages_of refs' ++ page ∷ []) others (pages_of refs') others
-            (λ q word cell other short. other_frame b (pages_of refs') others q word cell page other short)
-            (λ q word cell low here at short. filled_frame b (pages_of refs') others q word cell space page low here at own now spare short)
-            (subst (λ (l : List ℕ). AreShort b known l others rows) (ap pages_of was ∙ pages_push refs' page r) left.short);
+        short = rows_put b left.consistent space page known (reference.Frame own) rows rows' put (is_of left.of_space) ((more ++ pages_of refs') ++ page ∷ []) others (more ++ pages_of refs') others
+            (λ q word cell other short. other_frame b (more ++ pages_of refs') others q word cell page other short)
+            (λ q word cell low here at short. filled_frame b (more ++ pages_of refs') others q word cell space page low here at own now spare short)
+            (subst (λ (l : List ℕ). AreShort b known l others rows) behind left.short);
       }
 
-  pub slot_back : (own : CountedPage) → own ≡ owned_again r (brought second) → SlotsLeft b space known others refs seconds rows → IsPut page (reference.Slot own) rows rows' → SlotsLeft b space known others refs' seconds' rows'
+  pub slot_back : (own : CountedPage) → own ≡ owned_again r (brought second) → SlotsLeft b space known more others refs seconds rows → IsPut page (reference.Slot own) rows rows' → SlotsLeft b space known more others refs' seconds' rows'
   slot_back own is left put =
       let ref = all_last (λ (x : ℕ × CountedPage). IsRefOf (state_of b) space slot_of x.0 x.1) refs' (page, r) (All-same (λ (x : ℕ × CountedPage). IsRefOf (state_of b) space slot_of x.0 x.1) (refs' ++ (page, r) ∷ []) refs (sym was) left.refs) in
       let now = subst (IsRefOf (state_of b) space slot_of page) (sym is) (ref_again (state_of b) space slot_of page r (brought second) ref) in
@@ -143,11 +146,19 @@ module _ (b : BookData) (space : ℕ) (known : List (KnownRow (List Cell))) (oth
         refs = all_front (λ (x : ℕ × CountedPage). IsRefOf (state_of b) space slot_of x.0 x.1) refs' (page, r) (All-same (λ (x : ℕ × CountedPage). IsRefOf (state_of b) space slot_of x.0 x.1) (refs' ++ (page, r) ∷ []) refs (sym was) left.refs);
         backable = λ _. backable_less b.slots refs refs' seconds seconds' page r second was were full (is_of left.backable);
         of_space = λ _. of_space_now page space (reference.Slot own) rows rows' put (is_of left.of_space);
-        short = rows_put b left.consistent space page known (reference.Slot own) rows rows' put (is_of left.of_space) others (pages_of refs' ++ page ∷ []) others (pages_of refs')
-            (λ q word cell other short. other_slot b others (pages_of refs') q word cell page other short)
-            (λ q word cell low here at short. filled_slot b others (pages_of refs') q word cell space page low here at own now spare short)
-            (subst (λ (l : List ℕ). AreShort b known others l rows) (ap pages_of was ∙ pages_push refs' page r) left.short);
+        short = rows_put b left.consistent space page known (reference.Slot own) rows rows' put (is_of left.of_space) others ((more ++ pages_of refs') ++ page ∷ []) others (more ++ pages_of refs')
+            (λ q word cell other short. other_slot b others (more ++ pages_of refs') q word cell page other short)
+            (λ q word cell low here at short. filled_slot b others (more ++ pages_of refs') q word cell space page low here at own now spare short)
+            (subst (λ (l : List ℕ). AreShort b known others l rows) behind left.short);
       }
+
+-- where there were no second bodies there are none
+pub no_seconds : (seconds seconds' : Seconds) (second : Option (PageBody × Option (List ℕ))) → seconds ≡ seconds' ++ option_to_list second → seconds ≡ [] → seconds' ≡ []
+no_seconds seconds seconds' second were none = go seconds' second (sym were ∙ none)
+  where
+    go : (ss : Seconds) (o : Option (PageBody × Option (List ℕ))) → ss ++ option_to_list o ≡ [] → ss ≡ []
+    go [] o e = refl
+    go (s ∷ ss) o e = absurd (cc)
 
 pub no_refs : (refs : Refs) → length refs ≡ 0 → refs ≡ []
 no_refs [] e = refl

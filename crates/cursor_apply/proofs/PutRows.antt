@@ -10,7 +10,7 @@ use Rattle.std.proofs.lemmas.Option.{slice_get_within}
 use Rattle.std.proofs.lemmas.List.Elements.{Contains-get_or}
 use mathlib.Core.Logic.{dite}
 use native.Mathlib.Decide.{ℕ_discrete}
-use Rattle.page_map.specs.State.{IsConsistent, levels}
+use Rattle.page_map.specs.State.{State, IsConsistent, levels}
 use Rattle.row_cells.specs.declared.Cell.{Cell}
 use Rattle.row_table.specs.declared.view.HeldRow.{HeldRow as KnownRow}
 use Rattle.table_place.specs.declared.Place.{Place}
@@ -135,6 +135,20 @@ module _ (page space : ℕ) (r : Reference) (rows rows' : List Row) (put : IsPut
   pub of_space_now : AreOf space rows'
   of_space_now y has low = let o = came y has in ap (λ (p : Place). p.space) (sym o.same_place) ∙ of_space o.was o.held (subst (λ (p : Place). p.level < 6) (sym o.same_place) low)
 
+module _ (st : State) (is : IsConsistent st) (page : ℕ) where
+  -- the positions below a table
+  pub page_below : (p : Place) (i : ℕ) → i < 512 → IsTableOf st p → (below (levels st) p i).level ≡ 0 → (below (levels st) p i).prefix ≡ page → (p.level ≡ 1) × (p.prefix ≡ page / 512) × (i ≡ page % 512)
+  page_below p i inside (inl top) low at =
+      let e : (below (levels st) p i).level ≡ levels st = ap (λ (x : Place). (below (levels st) x i).level) top in
+      let least = is.some_levels in absurd (omega arith)
+  page_below p i inside (inr there) low at =
+      let few : levels st < 6 = omega (arith, is.few_levels) in
+      let depth = level_of (levels st) p (is.places p there) in
+      let b = below_is (levels st) p i (omega (arith, depth.1, few)) in
+      let level : p.level - 1 ≡ 0 = ap (λ (x : Place). x.level) (sym b) ∙ low in
+      let prefix : 512 * p.prefix + i ≡ page = ap (λ (x : Place). x.prefix) (sym b) ∙ at in
+      (omega (arith, depth.0, level), omega (arith, prefix, inside), omega (arith, prefix, inside))
+
 module _ (b : BookData) (is : IsConsistent (state_of b)) (space page : ℕ) (known : List (KnownRow (List Cell))) (r : Reference) (rows rows' : List Row) (put : IsPut page r rows rows') (of_space : AreOf space rows)
     (frames slots frames' slots' : List ℕ)
     (other : (q : Place) (word : ℕ) (cell : Cell) → (q.level ≡ 0 → q.prefix ≡ page → ⊥) → IsShortCell b frames slots q word cell → IsShortCell b frames' slots' q word cell)
@@ -142,25 +156,10 @@ module _ (b : BookData) (is : IsConsistent (state_of b)) (space page : ℕ) (kno
   abbrev L : ℕ
   L = levels (state_of b)
 
-  few : L < 6
-  few = let most = is.few_levels in omega arith
-
-  -- the positions below a table
-  page_below : (p : Place) (i : ℕ) → i < 512 → IsTableOf (state_of b) p → (below L p i).level ≡ 0 → (below L p i).prefix ≡ page → (p.level ≡ 1) × (p.prefix ≡ page / 512) × (i ≡ page % 512)
-  page_below p i inside (inl top) low at =
-      let e : (below L p i).level ≡ L = ap (λ (x : Place). (below L x i).level) top in
-      let least = is.some_levels in absurd (omega arith)
-  page_below p i inside (inr there) low at =
-      let depth = level_of L p (is.places p there) in
-      let b = below_is L p i (omega (arith, depth.1, few)) in
-      let level : p.level - 1 ≡ 0 = ap (λ (x : Place). x.level) (sym b) ∙ low in
-      let prefix : 512 * p.prefix + i ≡ page = ap (λ (x : Place). x.prefix) (sym b) ∙ at in
-      (omega (arith, depth.0, level), omega (arith, prefix, inside), omega (arith, prefix, inside))
-
   short_cell : (x : Row) (i word : ℕ) (cell : Cell) → i < 512 → Contains rows x → IsTableOf (state_of b) x.place → (o : CellCame page r x i cell) → IsShortCell b frames slots (below L x.place i) word o.was → IsShortCell b frames' slots' (below L x.place i) word cell
   short_cell x i word cell inside has table o short = elim o.is [
     | inl same ↦ subst (IsShortCell b frames' slots' (below L x.place i) word) (sym same.0)
-        (other (below L x.place i) word o.was (λ low at. let p = page_below x.place i inside table low at in same.1 ((p.0, p.1), p.2)) short)
+        (other (below L x.place i) word o.was (λ low at. let p = page_below (state_of b) is page x.place i inside table low at in same.1 ((p.0, p.1), p.2)) short)
     | inr fill ↦
         let at = below_is L x.place i (omega (arith, fill.1.0)) in
         let level : x.place.level ≡ 1 = fill.1.0 in

@@ -30,7 +30,7 @@ use Rattle.cursor_apply.specs.Putting.{AreRefs, pages_of}
 abbrev Tells : State → ℕ → (PageCell → Option ℕ) → Ref → Type 0
 Tells st s number_of r = (cell : PageCell) × (cell_at st s r.0 ≡ Some cell) × (number_of cell ≡ Some r.1.0) × (contents [] cell ≡ r.1.1)
 
-refs_each : (P : Ref → Type 0) (number_of : PageCell → Option ℕ) (es : List (ℕ × PageCell)) → AllByRecursion (λ (e : ℕ × PageCell). (n : ℕ) → number_of e.1 ≡ Some n → P (e.0, (n, contents [] e.1))) es → AllByRecursion P (refs_of number_of es)
+pub refs_each : (P : Ref → Type 0) (number_of : PageCell → Option ℕ) (es : List (ℕ × PageCell)) → AllByRecursion (λ (e : ℕ × PageCell). (n : ℕ) → number_of e.1 ≡ Some n → P (e.0, (n, contents [] e.1))) es → AllByRecursion P (refs_of number_of es)
 refs_each P number_of [] h = tt
 refs_each P number_of (e ∷ es) h = go (number_of e.1) refl (refs_each P number_of es h.1)
   where
@@ -38,7 +38,7 @@ refs_each P number_of (e ∷ es) h = go (number_of e.1) refl (refs_each P number
     go None is rest = rest
     go (Some n) is rest = (h.0 n is, rest)
 
-shown_each : (P : Ref → Type 0) (refs : Refs) → AllByRecursion P (shown_refs refs) → All (λ (r : ℕ × CountedPage). P (shown_ref r)) refs
+pub shown_each : (P : Ref → Type 0) (refs : Refs) → AllByRecursion P (shown_refs refs) → All (λ (r : ℕ × CountedPage). P (shown_ref r)) refs
 shown_each P [] h = All-nil (λ (r : ℕ × CountedPage). P (shown_ref r))
 shown_each P (r ∷ refs) h = All-cons (λ (r : ℕ × CountedPage). P (shown_ref r)) r refs h.0 (shown_each P refs h.1)
 
@@ -50,7 +50,7 @@ filtered P p (e ∷ es) h = go (p e) (filtered P p es h.1)
     go true rest = (h.0, rest)
     go false rest = rest
 
-find_in : (es : List (ℕ × PageCell)) (q : ℕ) (x : PageCell) → find nat_cmp q es ≡ Some x → Contains es (q, x)
+pub find_in : (es : List (ℕ × PageCell)) (q : ℕ) (x : PageCell) → find nat_cmp q es ≡ Some x → Contains es (q, x)
 find_in [] q x e = absurd (cc)
 find_in (e ∷ es) q x found = go (eq_by_cmp nat_cmp q e.0) refl (find_in es q x)
   where
@@ -62,7 +62,7 @@ find_in (e ∷ es) q x found = go (eq_by_cmp nat_cmp q e.0) refl (find_in es q x
         subst (Contains (e ∷ es)) (λ i. (key i, same i)) (in_head e es)
     go false tied rest = in_tail e es (q, x) (rest (sym (ap (λ b. cond b (Some e.1) (find nat_cmp q es)) tied) ∙ found))
 
-listed : (number_of : PageCell → Option ℕ) (es : List (ℕ × PageCell)) (q : ℕ) (x : PageCell) (n : ℕ) → number_of x ≡ Some n → Contains es (q, x) → Contains (map (λ (r : Ref). r.0) (refs_of number_of es)) q
+pub listed : (number_of : PageCell → Option ℕ) (es : List (ℕ × PageCell)) (q : ℕ) (x : PageCell) (n : ℕ) → number_of x ≡ Some n → Contains es (q, x) → Contains (map (λ (r : Ref). r.0) (refs_of number_of es)) q
 listed number_of [] q x n carries has = let less = has.1 in absurd (omega arith)
 listed number_of (e ∷ es) q x n carries has = go (number_of e.1) refl (listed number_of es q x n carries) (head_or_later e es (q, x) has)
   where
@@ -73,7 +73,7 @@ listed number_of (e ∷ es) q x n carries has = go (number_of e.1) refl (listed 
     go None is rest (inl same) = let clash : Some n ≡ None = sym carries ∙ (ap (λ (p : ℕ × PageCell). number_of p.1) (sym same) ∙ is) in absurd (cc)
     go None is rest (inr later) = rest later
 
-same_pages : (refs : Refs) → map (λ (r : Ref). r.0) (shown_refs refs) ≡ pages_of refs
+pub same_pages : (refs : Refs) → map (λ (r : Ref). r.0) (shown_refs refs) ≡ pages_of refs
 same_pages [] = refl
 same_pages (r ∷ refs) = ap (λ (l : List ℕ). r.0 ∷ l) (same_pages refs)
 

@@ -41,6 +41,7 @@ use Rattle.machine_plan.proofs.Pages.{own_page}
 use Rattle.cursor_detach.specs.Left.{drawn_cell, is_taken, IsCommitted}
 use Rattle.cursor_apply.specs.Applying.{hand_row, IsApplicable, Applied}
 use Rattle.cursor_apply.specs.Putting.{AreRefs, AreBackable, IsLacking, IsShortCell, AreShort, AreAgreed, IsReturnable, pages_of, row_place}
+use Rattle.cursor_apply.proofs.StagedStart.{no_rows_of}
 use Rattle.cursor_apply.proofs.Returned.{are_refs, none_listed, is_listed}
 
 pub record IsUndone (a b : BookData) (thread : ℕ) (c : Call) (kit : Kit) : Type 0 where
@@ -328,7 +329,7 @@ module _ {B E : Type 0} (a b : BookData) (thread : ℕ) (c : Call) (v : PassView
           };
     };
     given = ready.given;
-    hand = (no_parts hand_row v.hand (ready.hand ∙ ap (map (λ (g : ℕ × ℕ). g.0)) no_rows), no_parts (λ (g : GrantedRow). g.row) v.core.granted (ready.granted ∙ ap (map (λ (g : ℕ × ℕ). g.0)) no_rows));
+    hand = (no_rows_of hand_row v.hand (map (λ (g : ℕ × ℕ). g.0) kit.rows.items) ready.hand (ap (map (λ (g : ℕ × ℕ). g.0)) no_rows), no_rows_of (λ (g : GrantedRow). g.row) v.core.granted (map (λ (g : ℕ × ℕ). g.0) kit.rows.items) ready.granted (ap (map (λ (g : ℕ × ℕ). g.0)) no_rows));
     stored = λ done. absurd (true≢false (sym done ∙ undone));
     room = room;
     idle = idle;
@@ -341,7 +342,3 @@ module _ {B E : Type 0} (a b : BookData) (thread : ℕ) (c : Call) (v : PassView
 
       no_rows : kit.rows.items ≡ []
       no_rows = ap (λ (k : Kit). k.rows.items) u.same ∙ u.was_filled.ungranted.rows
-
-      no_parts : {X : Type 0} (f : X → ℕ) (xs : List X) → map f xs ≡ [] → xs ≡ []
-      no_parts f [] e = refl
-      no_parts f (x ∷ xs) e = absurd (cc)

@@ -15,6 +15,7 @@ use Rattle.row_cells.specs.declared.Cell.{Cell}
 use Rattle.row_table.specs.declared.view.PassView.{PassView}
 use Rattle.row_table.specs.declared.view.HandRow.{HandRow}
 use Rattle.row_table.specs.declared.view.HeldRow.{HeldRow as KnownRow}
+use Rattle.row_table.specs.Rule.{SameRows}
 use Rattle.tree_lock.specs.Release.{HoldsExactly}
 use Rattle.walk_core.specs.Core.{granted_rows}
 use Rattle.walk_core.specs.Words.{leaf_write}
@@ -62,8 +63,9 @@ module _ {B E : Type 0} where
     pub answered : Kit
     pub same_kit : kit ≡ record answered { gone = kit.gone }
     pub committed : IsCommitted a b thread c answered ⊎ (IsFilled a thread c answered × (b ≡ a))
-    pub hand : map hand_row v.hand ≡ map (λ g. g.0) kit.rows.items
-    pub granted : granted_rows v.core ≡ map (λ g. g.0) kit.rows.items
+    -- a sweep in the same hold changes their order
+    pub hand : SameRows (map hand_row v.hand) (map (λ g. g.0) kit.rows.items)
+    pub granted : SameRows (granted_rows v.core) (map (λ g. g.0) kit.rows.items)
     -- the lists of what detach and the book keep
     pub room : HasRoom kit
 

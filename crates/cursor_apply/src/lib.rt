@@ -1,10 +1,51 @@
 //! What a call changes in the held rows after the give.
 #![tactic(auto)]
 
+mod accessing;
+mod becoming;
+mod changing;
+mod copying;
+mod cutting;
+mod entries;
+mod forking;
+mod granting;
+mod growing;
 mod laws;
+mod linking;
+mod making;
+mod marking;
+mod pieces;
+mod placing;
 mod putting;
+mod ranging;
+mod resizing;
+mod returning;
 mod settling;
+mod sharing;
+mod showing;
+mod spacing;
+mod spreading;
+mod staying;
+mod towers;
+mod transacting;
+mod unsplit;
 
-pub use laws::the_list_of_a_cover_is_of_one_space;
+pub use accessing::apply_access;
+pub use changing::{make_changes, the_changes_of_a_range_lead_to_its_state};
+pub use copying::link_copy;
+pub use cutting::link_transaction;
+pub use forking::apply_fork;
+pub use granting::{apply_move, apply_swap};
+pub use laws::{rows_are_linked_where_no_table_was_wanted, the_list_of_a_cover_is_of_one_space};
+pub use marking::copy_marks;
+pub use pieces::map_pieces;
+pub use placing::{place_frames, place_slots};
 pub use putting::{Reference, put_back};
+pub use ranging::apply_range;
 pub use settling::{settle, undo};
+pub use sharing::share_leaves;
+pub use spacing::{apply_exit, apply_spawn};
+pub use staying::apply_stayed;
+pub use towers::{link_access, link_cut, link_root};
+pub use transacting::{apply_transaction, the_changes_of_a_transaction_lead_to_its_state};
+pub use unsplit::apply_unsplit;

@@ -1,5 +1,5 @@
 //! References that come back into the cells from which they were taken, after a call that was refused.
-ghost use Rattle.std.specs.Prelude.{◌≡◌, ◌<◌, ℕ, List, [], length, map, Some, slice_get, slice_set, vec_capacity};
+ghost use Rattle.std.specs.Prelude.{◌≡◌, ◌<◌, ◌++◌, ℕ, List, [], length, map, Some, slice_get, slice_set, vec_capacity};
 ghost use Rattle.page_map.specs.Cell.{frame_of, slot_of};
 ghost use Rattle.row_cells.specs.declared.Cell.{Cell as AnyCell};
 ghost use Rattle.row_table.specs.declared.view.HeldRow.{HeldRow as KnownRow};
@@ -51,8 +51,8 @@ fn filled(cell: Cell, reference: Reference) -> Cell
     }
 }
 
-// Puts a reference back into a cell.
-fn fill(cells: &mut Cells, index: u32, reference: Reference)
+/// Puts a reference back into a cell.
+pub(crate) fn fill(cells: &mut Cells, index: u32, reference: Reference)
     requires { index < 512 }
     ensures { (cell : _) × (slice_get cells.old index ≡ Some cell) × (cells.new ≡ slice_set cells.old index (filled_cell cell reference)) }
 {
@@ -61,7 +61,7 @@ fn fill(cells: &mut Cells, index: u32, reference: Reference)
 }
 
 // Where in the list the row of level 1 is that has a page.
-fn leaf_row(held: &Held<Cells>, page: u64) -> Option<u32>
+pub(crate) fn leaf_row(held: &Held<Cells>, page: u64) -> Option<u32>
     ensures leaf { IsLeafAt held.now.rows page result }
     ensures order { IsInOrder held.now.rows }
 {
@@ -75,7 +75,7 @@ fn leaf_row(held: &Held<Cells>, page: u64) -> Option<u32>
 }
 
 // Puts the reference of a page back into the cell of the page.
-fn put(held: &mut Held<Cells>, page: u64, reference: Reference)
+pub(crate) fn put(held: &mut Held<Cells>, page: u64, reference: Reference)
     ensures put { IsPut page reference held.old.rows held.new.rows }
     ensures room { held.new.room ≡ held.old.room }
 {
@@ -123,13 +123,14 @@ fn own_slot(slot: SlotRef, spare: Option<PageBuf>) -> SlotRef
 }
 
 // Puts frames back into the cells of their pages, the last one first.
-fn put_frames(
+pub(crate) fn put_frames(
     held: &mut Held<Cells>,
     frames: &mut Vec<(u64, FrameRef)>,
     seconds: &mut Vec<(Body, Option<PageBuf>)>,
 )
-    ensures back { (b : BookData) (space : ℕ) (known : List (KnownRow (List AnyCell))) (slots : List ℕ) → IsConsistent (state_of b) → AreRefs (state_of b) space frame_of frames.old.items → (0 < length frames.old.items → AreBackable b.frames frames.old.items seconds.old.items)
-        → (0 < length frames.old.items → AreOf space held.old.rows) → AreShort b known (pages_of frames.old.items) slots held.old.rows → AreShort b known [] slots held.new.rows }
+    ensures back { (b : BookData) (space : ℕ) (known : List (KnownRow (List AnyCell))) (more slots : List ℕ) → IsConsistent (state_of b) → AreRefs (state_of b) space frame_of frames.old.items → (0 < length frames.old.items → AreBackable b.frames frames.old.items seconds.old.items)
+        → (0 < length frames.old.items → AreOf space held.old.rows) → AreShort b known (more ++ pages_of frames.old.items) slots held.old.rows → AreShort b known more slots held.new.rows }
+    ensures seconds { seconds.old.items ≡ [] → seconds.new.items ≡ [] }
     ensures none { frames.new.items ≡ [] }
     ensures capacity { vec_capacity frames.new ≡ vec_capacity frames.old }
     ensures second_capacity { vec_capacity seconds.new ≡ vec_capacity seconds.old }
@@ -143,13 +144,14 @@ fn put_frames(
 }
 
 // Puts slots back into the cells of their pages, the last one first.
-fn put_slots(
+pub(crate) fn put_slots(
     held: &mut Held<Cells>,
     slots: &mut Vec<(u64, SlotRef)>,
     seconds: &mut Vec<(Body, Option<PageBuf>)>,
 )
-    ensures back { (b : BookData) (space : ℕ) (known : List (KnownRow (List AnyCell))) (frames : List ℕ) → IsConsistent (state_of b) → AreRefs (state_of b) space slot_of slots.old.items → (0 < length slots.old.items → AreBackable b.slots slots.old.items seconds.old.items)
-        → (0 < length slots.old.items → AreOf space held.old.rows) → AreShort b known frames (pages_of slots.old.items) held.old.rows → AreShort b known frames [] held.new.rows }
+    ensures back { (b : BookData) (space : ℕ) (known : List (KnownRow (List AnyCell))) (more frames : List ℕ) → IsConsistent (state_of b) → AreRefs (state_of b) space slot_of slots.old.items → (0 < length slots.old.items → AreBackable b.slots slots.old.items seconds.old.items)
+        → (0 < length slots.old.items → AreOf space held.old.rows) → AreShort b known frames (more ++ pages_of slots.old.items) held.old.rows → AreShort b known frames more held.new.rows }
+    ensures seconds { seconds.old.items ≡ [] → seconds.new.items ≡ [] }
     ensures none { slots.new.items ≡ [] }
     ensures capacity { vec_capacity slots.new ≡ vec_capacity slots.old }
     ensures second_capacity { vec_capacity seconds.new ≡ vec_capacity seconds.old }
