@@ -42,7 +42,7 @@ rows_below tables limit (x ∷ xs) less all =
 
 -- Afterwards
 
-row_small : (tables : ℕ) (xs : List Sampled) (q : ℕ) → All (IsTableRow tables) xs → Has (rows_of xs) q → q ≤ tables
+pub row_small : (tables : ℕ) (xs : List Sampled) (q : ℕ) → All (IsTableRow tables) xs → Has (rows_of xs) q → q ≤ tables
 row_small tables [] q all has = absurd (omega (arith, has, times-nil q))
 row_small tables (y ∷ ys) q all has = elim (cases_eq y.row q) [
   | inl e ↦ omega (arith, e, (All-head (IsTableRow tables) y ys all).1)
@@ -84,44 +84,55 @@ first_blocked : (left : List Sampled) → All HasBlocker left → FirstTells lef
 first_blocked [] all = record { none = λ s first free. refl }
 first_blocked (x ∷ xs) all = record { none = λ s first free. absurd (omega (arith, free, (All-head HasBlocker x xs all).there, ap (λ (y : Sampled). y.blocker) (Rattle.std.proofs.lemmas.Option.same_Some x s first))) }
 
-module _ (v w : View) (b : BookData) (free' : NumbersBelow) (left : List Sampled) (above journal_room limbo_room : ℕ)
-    (is : IsKept b above journal_room limbo_room) (found : v.found ≡ Some b) (has : v.core.has_book ≡ true) (some : 1 ≤ v.layout.passes) (few : v.layout.passes ≤ 8) (sweeps : Sweeps machine v b.limbo b.free w left free') where
+-- The rows that nobody reads by these numbers went from limbo to the free rows, and those that are left have their blockers.
+pub record Moves (numbers : List ℕ) (rows : ℕ) (b : BookData) (free' : NumbersBelow) (left : List Sampled) : Type 0 where
+  pub tidy : IsTidy rows b.limbo b.free
+  pub limit : free'.limit ≡ b.free.limit
+  pub stay : map put_of left ≡ map put_of (filter (is_read numbers) b.limbo)
+  pub freed : (row : ℕ) → set.contains free'.numbers row ≡ (set.contains b.free.numbers row || among (rows_of (filter (λ s. not (is_read numbers s)) b.limbo)) row)
+  pub blockers : All HasBlocker left
+
+pub moves_by_sweep : (v w : View) (b : BookData) (free' : NumbersBelow) (left : List Sampled) (above journal_room limbo_room : ℕ) → IsKept b above journal_room limbo_room → v.found ≡ Some b → v.core.has_book ≡ true → 1 ≤ v.layout.passes → v.layout.passes ≤ 8
+    → (sweeps : Sweeps machine v b.limbo b.free w left free') → Moves sweeps.numbers v.layout.rows b free' left
+moves_by_sweep v w b free' left above journal_room limbo_room is found has some few sweeps = record {
+  tidy = tidy_by_loads machine v w sweeps.numbers b.limbo b.free (stock v b is.below found) sweeps.loads has some;
+  limit = sweeps.limit;
+  stay = sweeps.stay;
+  freed = sweeps.freed;
+  blockers = has_blockers sweeps.numbers left (omega (arith, few, sweeps.loads.all)) sweeps.kept;
+}
+
+module _ (numbers : List ℕ) (rows : ℕ) (b : BookData) (free' : NumbersBelow) (left : List Sampled) (above journal_room limbo_room : ℕ) (is : IsKept b above journal_room limbo_room) (moves : Moves numbers rows b free' left) where
   abbrev now : BookData
   now = record b { free = free'; limbo = left }
 
   abbrev unread : Sampled → Bool
-  unread s = not (is_read sweeps.numbers s)
+  unread s = not (is_read numbers s)
 
   abbrev gone : List Sampled
   gone = filter unread b.limbo
 
-  tidy : IsTidy v.layout.rows b.limbo b.free
-  tidy = tidy_by_loads machine v w sweeps.numbers b.limbo b.free (stock v b is.below found) sweeps.loads has some
-
   new_rows : AreNew b.free.numbers b.free.limit b.limits.tables (rows_of gone)
   new_rows = record {
-    once = λ r. omega (arith, tidy.once r, fewer unread b.limbo r);
-    absent = λ r here. tidy.apart r (omega (arith, here, fewer unread b.limbo r));
+    once = λ r. omega (arith, moves.tidy.once r, fewer unread b.limbo r);
+    absent = λ r here. moves.tidy.apart r (omega (arith, here, fewer unread b.limbo r));
     below = λ r here. omega (arith, is.enough, row_small b.limits.tables gone r (All-filter unread (IsTableRow b.limits.tables) b.limbo is.rows) here);
     small = λ r here. row_small b.limits.tables gone r (All-filter unread (IsTableRow b.limits.tables) b.limbo is.rows) here;
   }
 
   growth : Grows b.free.numbers free'.numbers b.free.limit b.limits.tables (length (rows_of gone))
-  growth = grows b.free.numbers free'.numbers b.free.limit b.limits.tables (rows_of gone) new_rows sweeps.freed
+  growth = grows b.free.numbers free'.numbers b.free.limit b.limits.tables (rows_of gone) new_rows moves.freed
 
   within : free_rows_within now ≡ free_rows_within b + length gone
   within =
       let same : free_rows_within now ≡ free_rows_within (record b { free = record free' { limit = b.free.limit }; limbo = left }) =
-      ap (λ (n : ℕ). free_rows_within (record b { free = record free' { limit = n }; limbo = left })) sweeps.limit in
+      ap (λ (n : ℕ). free_rows_within (record b { free = record free' { limit = n }; limbo = left })) moves.limit in
       omega (arith, same, growth.within, length-map gone (λ (s : Sampled). s.row))
 
   split : length left + length gone ≡ length b.limbo
   split =
-      let stay : length (map put_of left) ≡ length (map put_of (filter (is_read sweeps.numbers) b.limbo)) = ap length sweeps.stay in
-      omega (arith, stay, length-map left put_of, length-map (filter (is_read sweeps.numbers) b.limbo) put_of, length-filter_both (is_read sweeps.numbers) unread (λ s. refl) b.limbo)
-
-  pub blockers : All HasBlocker left
-  blockers = has_blockers sweeps.numbers left (omega (arith, few, sweeps.loads.all)) sweeps.kept
+      let stay : length (map put_of left) ≡ length (map put_of (filter (is_read numbers) b.limbo)) = ap length moves.stay in
+      omega (arith, stay, length-map left put_of, length-map (filter (is_read numbers) b.limbo) put_of, length-filter_both (is_read numbers) unread (λ s. refl) b.limbo)
 
   same_state : state_of now ≡ state_of b
   unfolding state_of
@@ -153,14 +164,14 @@ module _ (v w : View) (b : BookData) (free' : NumbersBelow) (left : List Sampled
     aside = omega (arith, growth.all, within, is.aside, length-map gone (λ (s : Sampled). s.row));
     below = record {
       below = λ n there. ⊎_elim
-          (λ (was : set.contains b.free.numbers n ≡ true). omega (arith, sweeps.limit, is.below.below n was))
-          (λ (came : among (rows_of gone) n ≡ true). omega (arith, sweeps.limit, new_rows.below n (among_has (rows_of gone) n came)))
-          (either (set.contains b.free.numbers n) (among (rows_of gone) n) (sym (sweeps.freed n) ∙ there));
+          (λ (was : set.contains b.free.numbers n ≡ true). omega (arith, moves.limit, is.below.below n was))
+          (λ (came : among (rows_of gone) n ≡ true). omega (arith, moves.limit, new_rows.below n (among_has (rows_of gone) n came)))
+          (either (set.contains b.free.numbers n) (among (rows_of gone) n) (sym (moves.freed n) ∙ there));
     };
     journal = is.journal;
     limbo = omega (arith, is.limbo, same);
-    tells = first_blocked left blockers;
-    rows = rows_back b.limits.tables left (All-same (λ (k : PutRow). (1 ≤ k.row) × (k.row ≤ b.limits.tables)) (map put_of left) (map put_of (filter (is_read sweeps.numbers) b.limbo)) sweeps.stay
-        (All-map (λ (k : PutRow). (1 ≤ k.row) × (k.row ≤ b.limits.tables)) put_of (filter (is_read sweeps.numbers) b.limbo) (All-filter (is_read sweeps.numbers) (IsTableRow b.limits.tables) b.limbo is.rows)));
-    enough = omega (arith, is.enough, sweeps.limit);
+    tells = first_blocked left moves.blockers;
+    rows = rows_back b.limits.tables left (All-same (λ (k : PutRow). (1 ≤ k.row) × (k.row ≤ b.limits.tables)) (map put_of left) (map put_of (filter (is_read numbers) b.limbo)) moves.stay
+        (All-map (λ (k : PutRow). (1 ≤ k.row) × (k.row ≤ b.limits.tables)) put_of (filter (is_read numbers) b.limbo) (All-filter (is_read numbers) (IsTableRow b.limits.tables) b.limbo is.rows)));
+    enough = omega (arith, is.enough, moves.limit);
   }
