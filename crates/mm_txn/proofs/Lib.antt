@@ -1,1 +1,5 @@
 pub mod Starting
+pub mod Ending
+pub mod Opening
+pub mod Leaving
+pub mod Telling

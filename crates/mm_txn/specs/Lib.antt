@@ -1,2 +1,7 @@
 pub mod Starting
 pub mod Machines
+pub mod Ending
+pub mod Fit
+pub mod Txns
+pub mod Beginning
+pub mod Looking

@@ -2,9 +2,10 @@
 --     MachinePass      a pass of a machine
 --     MachineModel, model_of      its table, its greatest limits, how many files it has, and its name
 --     IsTable, IsMember, IsReady      its table;  a pass of it;  one that is outside and has nothing, with its kit in place
+--     IsWithin      limits that are at most these, with as many levels
 --     layout_for      the sizes of a table for these limits
 --     IsMade, IsStarted      a new table and its passes;  a machine that stands at its start
-use Rattle.std.specs.Prelude.{◌≡◌, ℕ, ◌+◌, List, map, Some}
+use Rattle.std.specs.Prelude.{◌≡◌, ℕ, ◌+◌, ◌≤◌, List, map, Some}
 use Rattle.std.specs.List.{All, range_with_len}
 use Rattle.corten_base.specs.declared.calls.Entry.{Entry}
 use Rattle.corten_base.specs.declared.numbers.Limits.{Limits}
@@ -18,6 +19,7 @@ use Rattle.row_table.specs.Rule.{unmoved}
 use Rattle.tree_lock.specs.Held.{HeldList}
 use Rattle.machine_plan.specs.declared.kit.Kit.{Kit}
 use Rattle.machine_plan.specs.Books.{BookData}
+use Rattle.page_map.specs.State.{IsWithinLimits}
 use Rattle.machine_law.specs.declared.plan.MmPlan.{MmPlan}
 use Rattle.machine_law.specs.contracts.plan.MmPlanPlan.TheImpl.{ghosts}
 use Rattle.book.specs.Starting.{Starts}
@@ -48,6 +50,13 @@ IsMember m p = table_of p ≡ (model_of m).table
 -- what each call asks of a pass, and how it leaves it
 abbrev pub IsReady : ℕ → MachinePass → Type 0
 IsReady rows p = IsIdle (view_of p) × ((k : Kit × HeldList (List Cell)) × (kit_of p ≡ Some k) × IsReadyKit rows k)
+
+pub record IsWithin (limits greatest : Limits) : Type 0 where
+  pub within : IsWithinLimits limits
+  pub levels : limits.levels ≡ greatest.levels
+  pub frames : limits.frames ≤ greatest.frames
+  pub tables : limits.tables ≤ greatest.tables
+  pub swap : limits.swap ≤ greatest.swap
 
 abbrev pub layout_for : Limits → ℕ → Layout
 layout_for limits passes = record { rows = limits.tables + 1; passes = passes; levels = limits.levels }

@@ -3,7 +3,7 @@ use Rattle.row_table.specs.Passes.{kit_of}
 use Rattle.mm_txn.specs.Starting.{IsReadyKit}
 use Rattle.mm_txn.specs.Machines.{MachinePass, layout_for}
 use Rattle.mm_txn.proofs.Starting.{may_start, kits_carried, is_idle}
-use Rattle.mm_txn.proofs.machine.made.Goals as goal
+use Rattle.mm_txn.proofs.booting.made.Goals as goal
 
 pub new-requires-2-clause-starts : goal.new-requires-2-clause-starts
 new-requires-2-clause-starts c κs = may_start (layout_for c.args.limits c.args.passes) (omega (arith, c.requires.within.some_levels, c.requires.within.few_levels, c.requires.within.some_table, c.requires.within.tables, c.requires.passes.0, c.requires.passes.1))
