@@ -1,0 +1,12 @@
+pub mod Planned
+pub mod Swept
+pub mod Released
+pub mod Counting
+pub mod Joined
+pub mod Links
+pub mod Giving
+pub mod Follow
+pub mod Short
+pub mod Showing
+pub mod Entered
+pub mod Law
