@@ -2,7 +2,7 @@
 --     nested      the span of a table begins at or before that of a table of a lower level above the same page
 --     levels_low, some_row      what the search asks
 --     lowest_is      what it finds
---     is_next      the table below the lowest row is missing
+--     is_next, absent_below      the table below the lowest row is missing
 --     lower      it is the lowest row once it is linked
 --     reaches, still_reached      the last one
 --     reached_table      a table above a page that is reached
@@ -241,8 +241,8 @@ module _ {B E : Type 0} (a b : BookData) (thread : ℕ) (c : Call) (kit : Kit) (
         strictly : (n m : ℕ) → n ≤ m → (n ≡ m → ⊥) → n < m
         strictly n m le ne = omega arith
 
-    absent : set.contains so.tables q ≡ false
-    absent = go (set.contains so.tables q) refl
+    pub absent_below : set.contains so.tables (place_of space (level - 1) page) ≡ false
+    absent_below = go (set.contains so.tables q) refl
       where
         made : (t : Bool) → set.contains (state_of a).tables q ≡ t → set.contains so.tables q ≡ true → ⊥
         made true was there = before was
@@ -253,7 +253,7 @@ module _ {B E : Type 0} (a b : BookData) (thread : ℕ) (c : Call) (kit : Kit) (
         go true e = absurd (made (set.contains (state_of a).tables q) refl e)
 
     pub is_next : IsNext a b thread c kit next v rows w rows' q
-    is_next = record { so_far = so; wanted = wanted; absent = absent; up = up }
+    is_next = record { so_far = so; wanted = wanted; absent = absent_below; up = up }
 
     pub lower : (rows'' : List Row) → LinksNext q rows' rows'' → IsLowest L space page (level - 1) rows''
     lower rows'' links = record {

@@ -44,7 +44,7 @@ use Rattle.cursor_apply.specs.Changed.{LiesIn, IsChange, Steps, all_clean, op_ch
 use Rattle.cursor_apply.specs.Changing.{IsNear, IsNearAll}
 use Rattle.cursor_apply.proofs.Between.{leads}
 
-near_of : (files : List (List ℕ)) (what : Backing) (count : ℕ) → is_backing files what ≡ true → count < 2 ^ 46 → (i : ℕ) → i < count → IsNear what i
+pub near_of : (files : List (List ℕ)) (what : Backing) (count : ℕ) → is_backing files what ≡ true → count < 2 ^ 46 → (i : ℕ) → i < count → IsNear what i
 near_of files backing.Zero count right few i low = tt
 near_of files (backing.File file index) count right few i low = let small = leb-true index (2 ^ 40) (and_parts (nat_lt file (length files)) (nat_le index (2 ^ 40)) right).1 in omega arith
 
@@ -101,7 +101,7 @@ module _ (old : State) (thread space : ℕ) (was : IsConsistent old) where
       ((page_range (levels old) at len both.1).0, (and_parts (is_length (levels old) len) (is_backing old.files what) both.0).1)
 
   -- where a mapping goes
-  user_map : (limbo : ℕ) (where_to : MapPlace) (len : ℕ) (perm : Perm) (what : Backing) → thread < 8 → Passed old thread (call.Map space where_to len perm what) limbo
+  pub user_map : (limbo : ℕ) (where_to : MapPlace) (len : ℕ) (perm : Perm) (what : Backing) → thread < 8 → Passed old thread (call.Map space where_to len perm what) limbo
       → (is_user_range (levels old) (placed_at old thread space where_to len / 4096) (pages_of len) ≡ true) × (is_backing old.files what ≡ true)
   user_map limbo place.Any len perm what small ok =
       let right = and_parts (is_length (levels old) len) (is_backing old.files what) (held_of _ _ ok.arguments) in

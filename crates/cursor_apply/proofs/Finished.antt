@@ -33,7 +33,7 @@ use Rattle.machine_plan.specs.Uses.{uses_page}
 use Rattle.machine_plan.proofs.Covering.{cell_there}
 use Rattle.cursor_detach.specs.Left.{came_from}
 use Rattle.cursor_detach.proofs.Started.{one_known, listed}
-use Rattle.cursor_apply.specs.Applying.{is_store, ShowsStores, Applied}
+use Rattle.cursor_apply.specs.Applying.{is_store, OnlyRows, ShowsStores, Applied}
 use Rattle.cursor_apply.specs.Putting.{IsShortCell, AreShort, AreAgreed, row_place}
 use Rattle.cursor_apply.specs.Showing.{HasWord, IsListed, IsDrawnCell, IsWritableCell, AreWritable}
 
@@ -119,9 +119,10 @@ module _ {B E : Type 0} (b : BookData) (thread : ℕ) (c : Call) (space : ℕ) (
       (subst (λ (p : Place). cell_at (state_of b) p.space p.prefix ≡ Some cell) (sym is) there) read write
       (subst (λ (p : Place). IsWritableCell b thread c frames slots [] [] (below (levels (state_of b)) p index) (slice_index s.known.words index) at.0) place (s.cells index at.0 inside at.1)))
 
-  pub is_finished : IsDistinct (row_numbers rows) → (rows' : List Row) (kit kit' : Kit) → AreAgreed b w.rows rows' → map row_place rows' ≡ map row_place rows → HasRoom kit' → IsIdle kit' → IsUngranted kit' → (kit'.second_frames.items ≡ []) × (kit'.second_slots.items ≡ [])
-      → Applied b thread c w rows' kit kit'
-  is_finished once rows' kit kit' agreed places room idle ungranted seconds = record {
+  pub is_finished : IsDistinct (row_numbers rows) → (v : PassView (List Cell) B E) → OnlyRows v w → (rows' : List Row) (kit kit' : Kit) → AreAgreed b w.rows rows' → map row_place rows' ≡ map row_place rows → HasRoom kit' → IsIdle kit' → IsUngranted kit' → (kit'.second_frames.items ≡ []) × (kit'.second_slots.items ≡ [])
+      → Applied b thread c v w rows' kit kit'
+  is_finished once v view rows' kit kit' agreed places room idle ungranted seconds = record {
+    view = view;
     held = record {
       exact = record { held = λ r. ap (times r) numbers ∙ ready.exact.held r; shown = ready.exact.shown };
       each = λ x has.

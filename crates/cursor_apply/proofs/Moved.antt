@@ -14,12 +14,13 @@ use Rattle.machine_plan.specs.Books.{BookData, state_of}
 use Rattle.machine_plan.specs.HeldRows.{Row}
 use Rattle.machine_plan.specs.Kits.{HasRoom, IsIdle, IsUngranted}
 use Rattle.machine_plan.specs.Uses.{uses_page}
-use Rattle.cursor_apply.specs.Applying.{is_store, Applied}
+use Rattle.cursor_apply.specs.Applying.{is_store, OnlyWords, Applied}
 use Rattle.cursor_apply.specs.Moving.{IsMove, AreLinked, AreLacking}
 use Rattle.cursor_apply.specs.Putting.{AreAgreed, pages_of, row_place}
 use Rattle.cursor_apply.specs.Showing.{AreWritable, AreSole, AreSlots, own_pages, MayShow, Shows, MayHide, Hides}
 use Rattle.cursor_apply.proofs.Begun.{move_space, made, backed, seconds, begun, new_sole, own_sole, new_slots}
 use Rattle.cursor_apply.proofs.Finished.{lacking, is_finished}
+use Rattle.cursor_apply.proofs.Kept.{words_more, rows_of_words}
 use Rattle.cursor_apply.proofs.KitLists.{fresh, stayed, refs_now, frames_of, slots_of, own_frames_of, own_slots_of}
 use Rattle.cursor_apply.proofs.WrittenRows.{View}
 
@@ -100,6 +101,7 @@ module _ {B E : Type 0} (a b : BookData) (thread : ℕ) (c : Call) (v : View B E
               short = lacking b thread c s frames slots w rows last;
             }
 
-        pub is_applied : IsDistinct (row_numbers rows) → (rows' : List Row) (kit' : Kit) → (AreLacking b s w.rows rows kit → AreAgreed b w.rows rows') → map row_place rows' ≡ map row_place rows
-            → HasRoom kit' → IsIdle kit' → IsUngranted kit' → (kit'.second_frames.items ≡ []) × (kit'.second_slots.items ≡ []) → Applied b thread c w rows' kit kit'
-        is_applied once rows' kit' back places room idle ungranted none = is_finished b thread c s frames slots w rows last once rows' kit kit' (back lacks) places room idle ungranted none
+        pub is_applied : OnlyWords v v1 → OnlyWords v1 v2 → OnlyWords v2 w → IsDistinct (row_numbers rows) → (rows' : List Row) (kit' : Kit) → (AreLacking b s w.rows rows kit → AreAgreed b w.rows rows') → map row_place rows' ≡ map row_place rows
+            → HasRoom kit' → IsIdle kit' → IsUngranted kit' → (kit'.second_frames.items ≡ []) × (kit'.second_slots.items ≡ []) → Applied b thread c v w rows' kit kit'
+        is_applied one two three once rows' kit' back places room idle ungranted none =
+            is_finished b thread c s frames slots w rows last once v (rows_of_words v w (words_more v v1 w one (words_more v1 v2 w two three))) rows' kit kit' (back lacks) places room idle ungranted none

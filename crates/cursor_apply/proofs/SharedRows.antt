@@ -2,6 +2,7 @@
 --     share_none      no row has it
 --     small_frame      its frame has a place in a leaf
 --     may_share, is_shared      what the call asks;  what it makes
+--     words_shared      it writes words alone
 --     row_at      the row that was found
 --     next_shared, frame_here, all_shared      pages of a list, one after another
 use Rattle.std.specs.Prelude.{◌≡◌, ◌≢◌, ℕ, ◌+◌, ◌-◌, ◌*◌, ◌/◌, ◌%◌, ◌<◌, ◌≤◌, ◌⊎◌, Bool, true, false, cond, List, [], ◌∷◌, ◌++◌, drop, length, nat_eq, slice_get, slice_index, slice_index_or, slice_set, Some, None}
@@ -30,8 +31,10 @@ use Rattle.machine_plan.specs.Books.{BookData, state_of}
 use Rattle.machine_plan.specs.HeldRows.{Row}
 use Rattle.machine_plan.specs.Kits.{Refs}
 use Rattle.cursor_detach.proofs.RowLists.{one_place, one_number}
+use Rattle.cursor_apply.specs.Applying.{OnlyWords}
 use Rattle.cursor_apply.specs.Putting.{pages_of}
 use Rattle.cursor_apply.specs.Sharing.{shared_leaf, leaf_place, IsLeafRow, IsSharingCell, IsSharingRow, AreSharing, IsFrameAt, AreFramesAt, MayShare, Shares}
+use Rattle.cursor_apply.proofs.Kept.{word_written}
 use Rattle.cursor_apply.proofs.PutRows.{page_below}
 use Rattle.cursor_apply.proofs.SharedCells.{leaf_kind, low_frame, share_here, share_other}
 use Rattle.cursor_apply.proofs.WrittenRows.{View}
@@ -212,6 +215,9 @@ module _ {B E : Type 0} (space at_page frame : ℕ) (v : View B E) (rows : List 
   module _ (order : IsInOrder rows) (once : IsDistinct (row_numbers rows)) (wide : AreWhole v) (x : Row) (has : Contains rows x) (leaf : x.place ≡ leaf_place space at_page) (cell : Cell) (stands : slice_get x.content (at_page % 512) ≡ Some cell) where
     pub may_share : MayShare space (at_page ∷ []) (λ b. IsFrameAt (state_of b) space at_page frame) v rows → MaySetEntry v x.row (at_page % 512) (shared_leaf cell frame)
     may_share (b, to_share, beside, ready, right) = may_write b space at_page to_share beside v rows ready order once wide frame right x has leaf cell stands
+
+    pub words_shared : MayShare space (at_page ∷ []) (λ b. IsFrameAt (state_of b) space at_page frame) v rows → (w : View B E) → Sets x.row (at_page % 512) (shared_leaf cell frame) v w → OnlyWords v w
+    words_shared may w sets = let s = may.3.each x has in word_written v w x.row (at_page % 512) (shared_leaf cell frame) s.known s.held s.same_row (leaf_kind cell frame (small_frame may)) sets
 
     pub is_shared : (w : View B E) → Sets x.row (at_page % 512) (shared_leaf cell frame) v w → Shares space (at_page ∷ []) (λ b. IsFrameAt (state_of b) space at_page frame) v w rows
     is_shared w sets b to_share beside ready right = is_written b space at_page to_share beside v rows ready order once wide frame right x has leaf cell stands w sets

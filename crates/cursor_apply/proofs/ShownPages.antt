@@ -2,6 +2,7 @@
 --     show_none, hide_none      no row has it
 --     small_frame      its frame has a place in a leaf
 --     may_show, is_shown, may_hide, is_hidden      what the call asks;  what it makes
+--     words_shown, words_hidden      it writes words alone
 --     row_at      the row that was found
 --     next_shown, next_hidden, all_shown, all_hidden      pages of a list, one after another
 use Rattle.std.specs.Prelude.{◌≡◌, ℕ, ◌+◌, ◌-◌, ◌*◌, ◌%◌, ◌<◌, ◌≤◌, false, List, [], ◌∷◌, ◌++◌, drop, length, slice_get, slice_index, slice_index_or, Some, None}
@@ -27,8 +28,10 @@ use Rattle.machine_plan.specs.Books.{BookData, state_of}
 use Rattle.machine_plan.specs.HeldRows.{Row}
 use Rattle.machine_plan.specs.Kits.{Refs}
 use Rattle.machine_plan.proofs.Covering.{cell_there}
+use Rattle.cursor_apply.specs.Applying.{OnlyWords}
 use Rattle.cursor_apply.specs.Putting.{IsLeafOf, IsLeafAt, pages_of}
 use Rattle.cursor_apply.specs.Showing.{sole_leaf, IsWritableCell, AreWritable, IsSoleAt, AreSole, IsSlotAt, AreSlots, MayShow, Shows, MayHide, Hides}
+use Rattle.cursor_apply.proofs.Kept.{word_written}
 use Rattle.cursor_apply.proofs.Writing.{leaf_kind, show_here, hide_here, not_shown, not_hidden}
 use Rattle.cursor_apply.proofs.WrittenRows.{View, nowhere, may_write, is_written}
 
@@ -107,6 +110,9 @@ module _ {B E : Type 0} (page : ℕ) (v : View B E) (rows : List Row) where
       pub may_show : MayShow (page ∷ []) (λ b space. IsSoleAt (state_of b) space page frame) v rows → MaySetEntry v x.row index (sole_leaf cell frame)
       may_show (b, thread, c, space, frames, slots, to_show, to_hide, ready, sole) = set_shown b thread c space frames slots to_show to_hide ready sole
 
+      pub words_shown : MayShow (page ∷ []) (λ b space. IsSoleAt (state_of b) space page frame) v rows → (w : View B E) → Sets x.row index (sole_leaf cell frame) v w → OnlyWords v w
+      words_shown may w sets = let s = may.8.each x has in word_written v w x.row index (sole_leaf cell frame) s.known s.held s.same_row (leaf_kind cell frame (small_frame frame may)) sets
+
       pub is_shown : (w : View B E) → Sets x.row index (sole_leaf cell frame) v w → Shows (page ∷ []) (λ b space. IsSoleAt (state_of b) space page frame) v w rows
       is_shown w sets b thread c space frames slots to_show to_hide ready sole = shown_now b thread c space frames slots to_show to_hide ready sole w sets
 
@@ -139,6 +145,9 @@ module _ {B E : Type 0} (page : ℕ) (v : View B E) (rows : List Row) where
     may_hide (b, thread, c, space, frames, slots, to_show, to_hide, ready, slot) =
         let at = cell_there x.content index (let whole = (ready.each x has).whole in omega arith) in
         set_hidden b thread c space frames slots to_show to_hide ready slot at.0 at.1
+
+    pub words_hidden : MayHide (page ∷ []) (λ b space. IsSlotAt (state_of b) space page) v rows → (w : View B E) → Sets x.row index 0 v w → OnlyWords v w
+    words_hidden may w sets = let s = may.8.each x has in word_written v w x.row index 0 s.known s.held s.same_row (inl refl) sets
 
     pub is_hidden : (w : View B E) → Sets x.row index 0 v w → Hides (page ∷ []) (λ b space. IsSlotAt (state_of b) space page) v w rows
     is_hidden w sets b thread c space frames slots to_show to_hide ready slot = hidden_now b thread c space frames slots to_show to_hide ready slot w sets

@@ -39,6 +39,7 @@ use Rattle.cursor_apply.specs.Transacting.{IsTxnIn}
 use Rattle.cursor_apply.proofs.Agreed.{agreed}
 use Rattle.cursor_apply.proofs.Backs.{of_space_still}
 use Rattle.cursor_apply.proofs.Between.{drawn, drawn_plain}
+use Rattle.cursor_apply.proofs.Kept.{rows_more, rows_of_words, rows_emptied}
 use Rattle.cursor_apply.proofs.Marks.{shows_same}
 use Rattle.cursor_apply.proofs.TxnBase.{gone, st, all_gone, between_gone, txn_base}
 use Rattle.cursor_apply.proofs.TxnCuts.{IsDone, as_txn, txn_space}
@@ -131,7 +132,7 @@ module _ {B E : Type 0} (a b : BookData) (thread : ℕ) (c : Call) (v : PassView
   none_old p = ap (λ (l : List Change). all_clean l left p) done.changes ∙ all_gone a b thread space txn.at txn.len txn.ops kit was ready.consistent ready.books done p
 
   pub txn_applied : (u : PassView (List Cell) B E) (rows3 : List Row) (kit' : Kit) → MakesAll kit.changes.items w rows2 u rows3 → HasRoom kit' → IsIdle kit' → IsUngranted kit' → (kit'.second_frames.items ≡ []) × (kit'.second_slots.items ≡ [])
-      → Applied b thread c u rows3 kit kit'
+      → Applied b thread c v u rows3 kit kit'
   txn_applied u rows3 kit' makes room idle ungranted seconds =
       let changed = makes b mid led.0 space left base steps in
       let changed_now : AreChanged b now (all_clean kit.changes.items left) w rows2 u rows3 = record {
@@ -140,6 +141,7 @@ module _ {B E : Type 0} (a b : BookData) (thread : ℕ) (c : Call) (v : PassView
         rows_of = λ x has. same_state_row b led.0 now (all_clean kit.changes.items left) led.1.same_tables led.1.same_levels same_cells u x (changed.rows_of x has);
       } in
       record {
+        view = rows_more v w u (rows_emptied v w staged.view) (rows_of_words w u changed.rewrites.view);
         held = agreed b (all_clean kit.changes.items left) none_old mid space left w rows2 u rows3 base changed_now;
         given = changed.rewrites.given staged.given;
         hand = (

@@ -67,12 +67,12 @@ module _ {X : Type 0} where
   each_of P (x ∷ xs) zero d h less = h.0
   each_of P (x ∷ xs) (suc k) d h less = each_of P xs k d h.1 (omega (arith, less))
 
-  any_at : (t : X → Bool) (xs : List X) (k : ℕ) (d : X) → k < length xs → t (slice_index_or xs k d) ≡ true → list_any t xs ≡ true
+  pub any_at : (t : X → Bool) (xs : List X) (k : ℕ) (d : X) → k < length xs → t (slice_index_or xs k d) ≡ true → list_any t xs ≡ true
   any_at t [] k d less h = absurd (omega arith)
   any_at t (x ∷ xs) zero d less h = or_left (t x) (list_any t xs) h
   any_at t (x ∷ xs) (suc k) d less h = or_right (t x) (list_any t xs) (any_at t xs k d (omega (arith, less)) h)
 
-  any_of : (t : X → Bool) (xs : List X) → list_any t xs ≡ true → (k : ℕ) × (k < length xs) × ((d : X) → t (slice_index_or xs k d) ≡ true)
+  pub any_of : (t : X → Bool) (xs : List X) → list_any t xs ≡ true → (k : ℕ) × (k < length xs) × ((d : X) → t (slice_index_or xs k d) ≡ true)
   any_of t [] h = absurd (false≢true h)
   any_of t (x ∷ xs) h = elim (or_cases (t x) (list_any t xs) h) [
     | inl here ↦ (0, omega arith, λ d. here)
@@ -131,7 +131,7 @@ module _ (L space first count : ℕ) (few : L ≤ 5) (some : 1 ≤ count) (k : �
   in_near : (page : ℕ) → (span_first (place_of space k page) ≤ page) × (page < span_first (place_of space k page) + span_count (place_of space k page))
   in_near page = in_range (span_first (place_of space k page)) (span_count (place_of space k page)) page (page_in_span (place_of space k page) space page small (tower_has space k page small))
 
-  near_cut : (low : ℕ) → IsLow L first low → low ≤ k → IsCut L space first count (place_of space k first)
+  pub near_cut : (low : ℕ) → IsLow L first low → low ≤ k → IsCut L space first count (place_of space k first)
   near_cut low is le =
       let cut = is.cut (omega (arith, le, high)) in
       let up = nested first low k le in
@@ -147,7 +147,7 @@ module _ (L space first count : ℕ) (few : L ≤ 5) (some : 1 ≤ count) (k : �
         outside = inl (omega (arith, up, cut));
       }
 
-  far_cut : (low : ℕ) → IsLow L (first + count) low → low ≤ k → IsCut L space first count (place_of space k (first + count - 1))
+  pub far_cut : (low : ℕ) → IsLow L (first + count) low → low ≤ k → IsCut L space first count (place_of space k (first + count - 1))
   far_cut low is le =
       let at = in_near (first + count - 1) in
       record {

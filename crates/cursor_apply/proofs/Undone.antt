@@ -312,8 +312,9 @@ module _ {B E : Type 0} (a b : BookData) (thread : ℕ) (c : Call) (v : PassView
   -- ---- what is left
 
   pub is_applied : (rows' : List Row) (kit' : Kit) → kit.done ≡ false → AreAgreed b v.rows rows' → map row_place rows' ≡ map row_place rows → HasRoom kit' → IsIdle kit' → IsUngranted kit' → (kit'.second_frames.items ≡ []) × (kit'.second_slots.items ≡ [])
-      → Applied b thread c v rows' kit kit'
+      → Applied b thread c v v rows' kit kit'
   is_applied rows' kit' undone agreed places room idle ungranted seconds = record {
+    view = refl;
     held = record {
       exact = record { held = λ r. ap (times r) numbers ∙ ready.exact.held r; shown = ready.exact.shown };
       each = λ x has.

@@ -1,5 +1,6 @@
 -- What an apply asks of the rows, the pass and the kit, and what it leaves.
 --     hand_row      the number of a row of the hand
+--     OnlyWords, OnlyRows      of a pass nothing but words of its rows is new;  nothing but its rows, and what is left in its hand
 --     IsApplicable      what it asks
 --     is_store, ShowsStores      whether a call stores;  the writing bits that are set then
 --     Applied      what it leaves
@@ -49,6 +50,12 @@ is_store (call.DontNeed space at len) = false
 is_store (call.Remap space at old_len new_len) = false
 
 module _ {B E : Type 0} where
+  abbrev pub OnlyWords : PassView (List Cell) B E → PassView (List Cell) B E → Type 0
+  OnlyWords v w = w ≡ record v { rows = w.rows }
+
+  abbrev pub OnlyRows : PassView (List Cell) B E → PassView (List Cell) B E → Type 0
+  OnlyRows v w = w ≡ record v { core = record v.core { held = w.core.held; granted = w.core.granted }; rows = w.rows; hand = w.hand }
+
   -- The book b was given after a detach, with the granted rows. Where nothing was committed it is a.
   pub record IsApplicable (a b : BookData) (thread : ℕ) (c : Call) (v : PassView (List Cell) B E) (rows : List Row) (kit : Kit) : Type 0 where
     pub exact : HoldsExactly rows v.core.held v.rows
@@ -75,7 +82,9 @@ module _ {B E : Type 0} where
       → uses_page (state_of b) thread c h.place.space (512 * h.place.prefix + index) ≡ true → cell_at (state_of b) h.place.space (512 * h.place.prefix + index) ≡ Some cell
       → can_read (perm_of cell) ≡ true → can_write (perm_of cell) ≡ true → leaf_write (slice_index h.words index) ≡ true
 
-  pub record Applied (b : BookData) (thread : ℕ) (c : Call) (w : PassView (List Cell) B E) (rows' : List Row) (kit kit' : Kit) : Type 0 where
+  -- v is the view before
+  pub record Applied (b : BookData) (thread : ℕ) (c : Call) (v w : PassView (List Cell) B E) (rows' : List Row) (kit kit' : Kit) : Type 0 where
+    pub view : OnlyRows v w
     pub held : HeldWith b w rows'
     pub given : AllGiven w
     pub hand : (w.hand ≡ []) × (w.core.granted ≡ [])

@@ -41,6 +41,7 @@ use Rattle.machine_plan.specs.Agrees.{below, HasBytes, IsTableOf, IsNoTable, Sho
 use Rattle.machine_plan.specs.Books.{BookData, state_of}
 use Rattle.machine_plan.specs.Held.{AllGiven, HeldWith}
 use Rattle.machine_plan.specs.HeldRows.{Row, AreOf, is_table}
+use Rattle.cursor_apply.specs.Applying.{OnlyWords}
 use Rattle.cursor_apply.specs.declared.becoming.Making.{Making}
 use Rattle.cursor_apply.specs.declared.becoming.Making.TheVariants as making
 use Rattle.cursor_apply.specs.declared.becoming.RangeChange.{RangeChange}
@@ -101,7 +102,7 @@ clean first count is_old page = is_old page && not (within first count page)
 
 module _ {B E : Type 0} where
   pub record Rewrites (v w : PassView (List Cell) B E) : Type 0 where
-    pub view : w ≡ record v { rows = w.rows }
+    pub view : OnlyWords v w
     pub parts : map row_part w.rows ≡ map row_part v.rows
     pub given : AllGiven v → AllGiven w
 

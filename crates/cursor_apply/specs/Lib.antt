@@ -8,15 +8,7 @@ pub mod Linking
 pub mod Changing
 pub mod Changed
 pub mod Between
-pub mod Ranging
 pub mod Transacting
 pub mod Returning
-pub mod Copying
 pub mod Sharing
 pub mod Placing
-pub mod Marking
-pub mod Resizing
-pub mod Growing
-pub mod Pieces
-pub mod Staying
-pub mod Unsplit

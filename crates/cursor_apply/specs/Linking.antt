@@ -54,7 +54,7 @@ use Rattle.machine_plan.specs.Held.{ListHolds}
 use Rattle.machine_plan.specs.HeldRows.{Row}
 use Rattle.machine_plan.specs.Uses.{zone_of}
 use Rattle.cursor_detach.specs.Cutting.{above_place, above_index, IsRowAt}
-use Rattle.cursor_apply.specs.Applying.{hand_row}
+use Rattle.cursor_apply.specs.Applying.{hand_row, OnlyRows}
 use Rattle.cursor_apply.specs.Staging.{AreStaged}
 
 -- each entry spans so many pages
@@ -156,7 +156,7 @@ module _ {B E : Type 0} where
   -- The tables are those that the call left and those of the rows that were linked. As many are missing as rows are left.
   pub record LinkedSoFar (a b : BookData) (thread : ℕ) (c : Call) (kit : Kit) (next : ℕ) (v : PassView (List Cell) B E) (rows : List Row) (w : PassView (List Cell) B E) (rows' : List Row) : Type 0 where
     pub tables : Tables
-    pub view : w ≡ record v { core = record v.core { held = w.core.held; granted = w.core.granted }; rows = w.rows; hand = w.hand }
+    pub view : OnlyRows v w
     pub exact : HoldsExactly rows' w.core.held w.rows
     pub staged : AreStaged a b tables thread c kit w rows'
     pub kept : (x : Row) → Contains rows x → (y : Row) × Contains rows' y × (y.row ≡ x.row) × (y.place ≡ x.place)

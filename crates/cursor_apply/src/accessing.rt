@@ -38,7 +38,8 @@ pub fn apply_access<P: Plan<Row = Cells>>(
         → IsApplicable a b thread c (view_of pass.old) held.old.rows kit.old
         → IsLinkable a b thread c (view_of pass.old) held.old.rows kit.old → IsAccessIn space c
         → writes ≡ is_store c
-        → Applied b thread c (view_of pass.new) held.new.rows kit.old kit.new }
+        → Applied b thread c (view_of pass.old) (view_of pass.new) held.new.rows
+        kit.old kit.new }
     ensures room { held.new.room ≡ held.old.room }
 {
     link_access(pass, iron, held, kit, space);

@@ -10,7 +10,7 @@ use row_cells::Cell;
 
 /// What is made of each page of a range.
 #[derive(Clone, Copy)]
-pub(crate) enum Making {
+pub enum Making {
     /// A page of a new mapping, with the backing of its first one.
     Back(Perm, Backing),
     /// Nothing.
@@ -23,7 +23,7 @@ pub(crate) enum Making {
 
 /// So many pages from the first one on, and what is made of them.
 #[derive(Clone, Copy)]
-pub(crate) struct RangeChange {
+pub struct RangeChange {
     pub making: Making,
     pub first: u64,
     pub count: u64,

@@ -44,7 +44,7 @@ fn change_row<P: Plan<Row = Cells>>(
 }
 
 /// Makes of all rows of the list what a change makes of the pages of its range.
-pub(crate) fn change_rows<P: Plan<Row = Cells>>(
+pub fn change_rows<P: Plan<Row = Cells>>(
     pass: &mut Pass<P>,
     iron: &Iron<P>,
     held: &mut Held<Cells>,
@@ -94,7 +94,7 @@ fn range_of_op(op: TxnOp) -> RangeChange
 }
 
 // The pages that a change of a call changes where they stand, and what it makes of them.
-pub(crate) fn range_of(change: Change) -> Option<RangeChange>
+pub fn range_of(change: Change) -> Option<RangeChange>
     ensures { result ≡ range_change change }
 {
     match change {

@@ -59,11 +59,13 @@ pub fn apply_move<P: Plan<Row = Cells>>(
     ensures applies { (a b : BookData) (thread : ℕ) (c : AnyCall)
         → AreLinked a b thread c (view_of pass.old) held.old.rows kit.old → IsMove c
         → writes ≡ is_store c
-        → Applied b thread c (view_of pass.new) held.new.rows kit.old kit.new }
+        → Applied b thread c (view_of pass.old) (view_of pass.new) held.new.rows
+        kit.old kit.new }
     ensures alone { (a b : BookData) (thread : ℕ) (c : AnyCall)
         → IsApplicable a b thread c (view_of pass.old) held.old.rows kit.old
         → GotNoTable a b kit.old → IsMove c → writes ≡ is_store c
-        → Applied b thread c (view_of pass.new) held.new.rows kit.old kit.new }
+        → Applied b thread c (view_of pass.old) (view_of pass.new) held.new.rows
+        kit.old kit.new }
     ensures room { held.new.room ≡ held.old.room }
 {
     has_rows_once(held);
@@ -92,7 +94,8 @@ pub fn apply_swap<P: Plan<Row = Cells>>(
     ensures same { kit_of pass.new ≡ kit_of pass.old }
     ensures applies { (a b : BookData) (thread : ℕ) (c : AnyCall)
         → IsApplicable a b thread c (view_of pass.old) held.old.rows kit.old → IsSwap c
-        → Applied b thread c (view_of pass.new) held.new.rows kit.old kit.new }
+        → Applied b thread c (view_of pass.old) (view_of pass.new) held.new.rows
+        kit.old kit.new }
     ensures room { held.new.room ≡ held.old.room }
 {
     apply_move(pass, iron, held, kit, false);

@@ -1,13 +1,13 @@
 //! Granted rows are linked.
-ghost use Rattle.std.specs.Prelude.{◌≡◌, ◌+◌, ◌-◌, ◌^◌, ◌<◌, ℕ, List, length, true};
+ghost use Rattle.std.specs.Prelude.{◌≡◌, ◌+◌, ◌-◌, ◌^◌, ◌<◌, ◌≤◌, length, true};
 ghost use Rattle.std.specs.List.{Contains};
 ghost use Rattle.table_place.specs.Place.{is_place};
-ghost use Rattle.row_table.specs.Passes.{view_of, kit_of, table_of, layout_of, IsPassOf};
-ghost use Rattle.tree_lock.specs.Held.{IsInOrder};
+ghost use Rattle.row_table.specs.Passes.{view_of, kit_of, table_of, IsPassOf};
 ghost use Rattle.machine_plan.specs.HeldRows.{Row};
 ghost use Rattle.cursor_detach.specs.Left.{IsBlankIn};
 ghost use Rattle.cursor_detach.specs.Cutting.{above_place, above_index, IsRowAt};
-ghost use Rattle.cursor_apply.specs.Linking.{MayLinkAt, LinksAt, CanLinkNext, LinksOneMore, LinksNext};
+ghost use Rattle.cursor_apply.specs.Linking.{MayLinkAt, LinksAt, CanLinkNext, LinksOneMore};
+ghost use Rattle.cursor_apply.specs.Linking.{LinksNext};
 
 use crate::spreading::spread;
 use machine_plan::Kit;
@@ -55,7 +55,7 @@ fn linker_of(levels: u8, place: Place) -> Linker
 
 /// Where in a list the row at a position is. A table stands close behind its parent's other tables, so the search begins at the
 /// end.
-pub(crate) fn row_at(rows: &[HeldRow<Cells>], place: Place) -> usize
+pub fn row_at(rows: &[HeldRow<Cells>], place: Place) -> usize
     requires { (x : Row) × Contains rows.now x × (x.place ≡ place) }
     ensures { IsRowAt place rows.now result }
 {
@@ -70,9 +70,11 @@ pub(crate) fn row_at(rows: &[HeldRow<Cells>], place: Place) -> usize
 }
 
 /// How many pages each entry of a table of this level spans.
-pub(crate) fn entry_pages(level: u8) -> u64
+pub fn entry_pages(level: u8) -> u64
     requires level { level < 6 }
-    ensures { result ≡ 512 ^ (level - 1) }
+    ensures value { result ≡ 512 ^ (level - 1) }
+    ensures some { 1 ≤ result }
+    ensures few { result ≤ 2 ^ 36 }
 {
     match level {
         0 => 1,
@@ -101,7 +103,8 @@ fn link_row<P: Plan<Row = Cells>>(
     requires room { length held.old.rows < held.old.room }
     ensures table { table_of pass.new ≡ table_of pass.old }
     ensures same { kit_of pass.new ≡ kit_of pass.old }
-    ensures links { LinksAt levels row generation place held.old.rows (view_of pass.old) held.new.rows (view_of pass.new) }
+    ensures links { LinksAt levels row generation place held.old.rows (view_of pass.old)
+        held.new.rows (view_of pass.new) }
     ensures room { held.new.room ≡ held.old.room }
 {
     let above = linker_of(levels, place);
@@ -124,7 +127,7 @@ fn link_row<P: Plan<Row = Cells>>(
 }
 
 /// Links the next granted row at a position that is missing.
-pub(crate) fn link_next<P: Plan<Row = Cells>>(
+pub fn link_next<P: Plan<Row = Cells>>(
     pass: &mut Pass<P>,
     iron: &Iron<P>,
     levels: u8,
@@ -136,10 +139,12 @@ pub(crate) fn link_next<P: Plan<Row = Cells>>(
     requires table { IsPassOf iron.now pass.old }
     requires blank { IsBlankIn P.meaning.is_blank }
     requires levels { levels < 6 }
-    requires ready { CanLinkNext levels held.old.room kit.now next (view_of pass.old) held.old.rows place }
+    requires ready { CanLinkNext levels held.old.room kit.now next (view_of pass.old) held.old.rows
+        place }
     ensures table { table_of pass.new ≡ table_of pass.old }
     ensures same { kit_of pass.new ≡ kit_of pass.old }
-    ensures links { LinksOneMore levels held.old.room kit.now next (view_of pass.old) held.old.rows place (view_of pass.new) held.new.rows }
+    ensures links { LinksOneMore levels held.old.room kit.now next (view_of pass.old) held.old.rows
+        place (view_of pass.new) held.new.rows }
     ensures list { LinksNext place held.old.rows held.new.rows }
     ensures room { held.new.room ≡ held.old.room }
 {

@@ -6,6 +6,7 @@ ghost use Rattle.cursor_apply.specs.Changing.{IsNearIn, IsNearAll, IsPart, MayMa
 
 use crate::becoming::{Making, RangeChange, is_link_cell, make_cell};
 use crate::entries::set_entry;
+use crate::linking::entry_pages;
 use row_cells::{Cell, Cells};
 use row_table::{Iron, Pass, Plan};
 use table_place::Place;
@@ -15,23 +16,6 @@ use table_place::Place;
 pub(crate) struct Part {
     pub from: u32,
     pub to: u32,
-}
-
-// How many pages an entry of a table of this level leads to.
-fn entry_pages(level: u8) -> u64
-    requires low { 1 ≤ level }
-    requires high { level < 6 }
-    ensures value { result ≡ 512 ^ (level - 1) }
-    ensures some { 1 ≤ result }
-    ensures few { result ≤ 2 ^ 36 }
-{
-    match level {
-        1 => 1,
-        2 => 512,
-        3 => 262_144,
-        4 => 134_217_728,
-        _ => 68_719_476_736,
-    }
 }
 
 // The entries of a table that have all their pages in a range.

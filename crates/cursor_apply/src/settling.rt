@@ -1,5 +1,5 @@
 //! What is left of a kit, and a call that was refused.
-ghost use Rattle.std.specs.Prelude.{◌≡◌, ℕ, [], false, None};
+ghost use Rattle.std.specs.Prelude.{◌≡◌, ℕ, [], false};
 ghost use Rattle.corten_base.specs.declared.calls.Call.{Call as AnyCall};
 ghost use Rattle.row_table.specs.Passes.{view_of};
 ghost use Rattle.machine_plan.specs.Books.{BookData};
@@ -35,9 +35,12 @@ pub fn settle(kit: &mut Kit)
 /// Puts everything back as it was, after a call that was refused or that found no place in the journal. No word is written.
 pub fn undo<P: Plan<Row = Cells>>(_pass: &Pass<P>, held: &mut Held<Cells>, kit: &mut Kit)
     requires refused { kit.old.done ≡ false }
-    requires ready { (a : BookData) × (b : BookData) × (thread : ℕ) × (c : AnyCall) × IsApplicable a b thread c (view_of _pass.now) held.old.rows kit.old }
-    ensures applies { (a b : BookData) (thread : ℕ) (c : AnyCall) → IsApplicable a b thread c (view_of _pass.now) held.old.rows kit.old
-        → Applied b thread c (view_of _pass.now) held.new.rows kit.old kit.new }
+    requires ready { (a : BookData) × (b : BookData) × (thread : ℕ) × (c : AnyCall)
+        × IsApplicable a b thread c (view_of _pass.now) held.old.rows kit.old }
+    ensures applies { (a b : BookData) (thread : ℕ) (c : AnyCall)
+        → IsApplicable a b thread c (view_of _pass.now) held.old.rows kit.old
+        → Applied b thread c (view_of _pass.now) (view_of _pass.now) held.new.rows
+        kit.old kit.new }
     ensures room { held.new.room ≡ held.old.room }
 {
     put_back(held, kit);

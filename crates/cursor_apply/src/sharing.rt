@@ -3,6 +3,7 @@ ghost use Rattle.std.specs.Prelude.{◌≡◌, ◌<◌, ◌∷◌, []};
 ghost use Rattle.row_table.specs.Passes.{view_of, kit_of, table_of, IsPassOf};
 ghost use Rattle.tree_lock.specs.Held.{IsInOrder};
 ghost use Rattle.machine_plan.specs.Books.{state_of};
+ghost use Rattle.cursor_apply.specs.Applying.{OnlyWords};
 ghost use Rattle.cursor_apply.specs.Putting.{pages_of};
 ghost use Rattle.cursor_apply.specs.Sharing.{common_leaf, shared_leaf, IsLeafRow};
 ghost use Rattle.cursor_apply.specs.Sharing.{IsFrameAt, AreFramesAt, MayShare, Shares};
@@ -71,6 +72,7 @@ fn share_leaf<P: Plan<Row = Cells>>(
         (view_of pass.old) held.now.rows }
     ensures table { table_of pass.new ≡ table_of pass.old }
     ensures same { kit_of pass.new ≡ kit_of pass.old }
+    ensures words { OnlyWords (view_of pass.old) (view_of pass.new) }
     ensures shared { Shares space (page ∷ []) (λ b. IsFrameAt (state_of b) space page frame)
         (view_of pass.old) (view_of pass.new) held.now.rows }
 {
@@ -101,6 +103,7 @@ pub fn share_leaves<P: Plan<Row = Cells>>(
         (view_of pass.old) held.now.rows }
     ensures table { table_of pass.new ≡ table_of pass.old }
     ensures same { kit_of pass.new ≡ kit_of pass.old }
+    ensures words { OnlyWords (view_of pass.old) (view_of pass.new) }
     ensures shared { Shares space (pages_of frames.now)
         (λ b. AreFramesAt (state_of b) space frames.now)
         (view_of pass.old) (view_of pass.new) held.now.rows }

@@ -2,6 +2,7 @@
 ghost use Rattle.std.specs.Prelude.{◌≡◌, ◌<◌, ◌∷◌, [], true};
 ghost use Rattle.row_table.specs.Passes.{view_of, kit_of, table_of, IsPassOf};
 ghost use Rattle.machine_plan.specs.Books.{state_of};
+ghost use Rattle.cursor_apply.specs.Applying.{OnlyWords};
 ghost use Rattle.cursor_apply.specs.Putting.{pages_of};
 ghost use Rattle.cursor_apply.specs.Showing.{own_leaf, sole_leaf as leaf_at, own_pages};
 ghost use Rattle.cursor_apply.specs.Showing.{IsSoleAt, AreSole, IsSlotAt, AreSlots};
@@ -52,6 +53,7 @@ fn show_frame<P: Plan<Row = Cells>>(
         (view_of pass.old) held.now.rows }
     ensures table { table_of pass.new ≡ table_of pass.old }
     ensures same { kit_of pass.new ≡ kit_of pass.old }
+    ensures words { OnlyWords (view_of pass.old) (view_of pass.new) }
     ensures shown { Shows (page ∷ []) (λ b space. IsSoleAt (state_of b) space page frame)
         (view_of pass.old) (view_of pass.new) held.now.rows }
 {
@@ -79,6 +81,7 @@ fn hide_page<P: Plan<Row = Cells>>(
         (view_of pass.old) held.now.rows }
     ensures table { table_of pass.new ≡ table_of pass.old }
     ensures same { kit_of pass.new ≡ kit_of pass.old }
+    ensures words { OnlyWords (view_of pass.old) (view_of pass.new) }
     ensures hidden { Hides (page ∷ []) (λ b space. IsSlotAt (state_of b) space page)
         (view_of pass.old) (view_of pass.new) held.now.rows }
 {
@@ -104,6 +107,7 @@ pub(crate) fn show_frames<P: Plan<Row = Cells>>(
         (view_of pass.old) held.now.rows }
     ensures table { table_of pass.new ≡ table_of pass.old }
     ensures same { kit_of pass.new ≡ kit_of pass.old }
+    ensures words { OnlyWords (view_of pass.old) (view_of pass.new) }
     ensures shown { Shows (pages_of frames.now) (λ b space. AreSole (state_of b) space frames.now)
         (view_of pass.old) (view_of pass.new) held.now.rows }
 {
@@ -127,6 +131,7 @@ pub(crate) fn show_written<P: Plan<Row = Cells>>(
         (view_of pass.old) held.now.rows }
     ensures table { table_of pass.new ≡ table_of pass.old }
     ensures same { kit_of pass.new ≡ kit_of pass.old }
+    ensures words { OnlyWords (view_of pass.old) (view_of pass.new) }
     ensures shown { Shows (own_pages writes frames.now)
         (λ b space. writes ≡ true → AreSole (state_of b) space frames.now)
         (view_of pass.old) (view_of pass.new) held.now.rows }
@@ -149,6 +154,7 @@ pub(crate) fn hide_pages<P: Plan<Row = Cells>>(
         (view_of pass.old) held.now.rows }
     ensures table { table_of pass.new ≡ table_of pass.old }
     ensures same { kit_of pass.new ≡ kit_of pass.old }
+    ensures words { OnlyWords (view_of pass.old) (view_of pass.new) }
     ensures hidden { Hides (pages_of slots.now) (λ b space. AreSlots (state_of b) space slots.now)
         (view_of pass.old) (view_of pass.new) held.now.rows }
 {

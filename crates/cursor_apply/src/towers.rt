@@ -1,5 +1,5 @@
 //! The tables above a page are linked, the highest one that is missing first.
-ghost use Rattle.std.specs.Prelude.{◌≡◌, ◌+◌, ◌^◌, ◌≤◌, ◌<◌, ℕ, List, cond, length, nat_lt, true};
+ghost use Rattle.std.specs.Prelude.{◌≡◌, ◌+◌, ◌^◌, ◌≤◌, ◌<◌, ℕ, cond, length, nat_lt, true};
 ghost use Rattle.std.specs.List.{Contains};
 ghost use Rattle.corten_base.specs.declared.calls.Call.{Call as AnyCall};
 ghost use Rattle.table_place.specs.Place.{has_page, place_of};
@@ -8,7 +8,9 @@ ghost use Rattle.machine_plan.specs.Books.{BookData};
 ghost use Rattle.machine_plan.specs.Held.{ListHolds};
 ghost use Rattle.machine_plan.specs.HeldRows.{Row};
 ghost use Rattle.cursor_detach.specs.Left.{IsBlankIn};
-ghost use Rattle.cursor_apply.specs.Linking.{CanLinkPage, LinksMore, CanLinkCut, LinksMoreCut, AreAbove, IsAccessIn, IsLinkable, IsLow, IsLowestAt, MakesSpace, ReachesCut, ReachesPage};
+ghost use Rattle.cursor_apply.specs.Linking.{CanLinkPage, LinksMore, CanLinkCut, LinksMoreCut};
+ghost use Rattle.cursor_apply.specs.Linking.{AreAbove, IsAccessIn, IsLinkable, IsLow, IsLowestAt};
+ghost use Rattle.cursor_apply.specs.Linking.{MakesSpace, ReachesCut, ReachesPage};
 ghost use Rattle.cursor_apply.specs.Applying.{IsApplicable};
 ghost use Rattle.cursor_apply.specs.Staging.{Staged};
 
@@ -39,8 +41,8 @@ fn spans(place: Place, space: u8, page: u64) -> bool
     place.level == 6 || place == table_above(space, place.level, page)
 }
 
-// Where in a list the lowest row is that has a page. It stands behind the others that have it.
-fn lowest_row(rows: &[HeldRow<Cells>], space: u8, page: u64) -> usize
+/// Where in a list the lowest row is that has a page. It stands behind the others that have it.
+pub fn lowest_row(rows: &[HeldRow<Cells>], space: u8, page: u64) -> usize
     requires levels { (x : Row) → Contains rows.now x → x.place.level ≤ 6 }
     requires some { (x : Row) × Contains rows.now x × (has_page x.place space page ≡ true) }
     ensures { IsLowestAt space page rows.now result }
@@ -68,7 +70,7 @@ fn level_in(levels: u8, place: Place) -> u8
 }
 
 /// Links the missing tables above a page, down to those of a level. Answers how many of the granted rows are linked then.
-pub(crate) fn link_page<P: Plan<Row = Cells>>(
+pub fn link_page<P: Plan<Row = Cells>>(
     pass: &mut Pass<P>,
     iron: &Iron<P>,
     levels: u8,
@@ -82,10 +84,12 @@ pub(crate) fn link_page<P: Plan<Row = Cells>>(
     requires table { IsPassOf iron.now pass.old }
     requires blank { IsBlankIn P.meaning.is_blank }
     requires levels { levels < 6 }
-    requires ready { CanLinkPage levels held.old.room kit.now next (view_of pass.old) held.old.rows space page low }
+    requires ready { CanLinkPage levels held.old.room kit.now next (view_of pass.old) held.old.rows
+        space page low }
     ensures table { table_of pass.new ≡ table_of pass.old }
     ensures same { kit_of pass.new ≡ kit_of pass.old }
-    ensures links { LinksMore levels held.old.room kit.now next (view_of pass.old) held.old.rows space page low result (view_of pass.new) held.new.rows }
+    ensures links { LinksMore levels held.old.room kit.now next (view_of pass.old) held.old.rows
+        space page low result (view_of pass.new) held.new.rows }
     ensures reached { ReachesPage space page low held.new.rows }
     ensures kept { (p : _) → ListHolds held.old.rows p → ListHolds held.new.rows p }
     ensures room { held.new.room ≡ held.old.room }
@@ -109,8 +113,8 @@ pub(crate) fn link_page<P: Plan<Row = Cells>>(
     done
 }
 
-// The least level whose tables a page does not begin. Where it begins them all that is the root's.
-fn low_of(levels: u8, page: u64) -> u8
+/// The least level whose tables a page does not begin. Where it begins them all that is the root's.
+pub fn low_of(levels: u8, page: u64) -> u8
     requires levels { (1 ≤ levels) × (levels < 6) }
     ensures { IsLow levels page result }
 {
@@ -138,10 +142,12 @@ pub fn link_cut<P: Plan<Row = Cells>>(
     requires blank { IsBlankIn P.meaning.is_blank }
     requires levels { (1 ≤ levels) × (levels < 6) }
     requires pages { first + count < 2 ^ 64 }
-    requires ready { CanLinkCut levels held.old.room kit.now next (view_of pass.old) held.old.rows space first count }
+    requires ready { CanLinkCut levels held.old.room kit.now next (view_of pass.old) held.old.rows
+        space first count }
     ensures table { table_of pass.new ≡ table_of pass.old }
     ensures same { kit_of pass.new ≡ kit_of pass.old }
-    ensures links { LinksMoreCut levels held.old.room kit.now next (view_of pass.old) held.old.rows space first count result (view_of pass.new) held.new.rows }
+    ensures links { LinksMoreCut levels held.old.room kit.now next (view_of pass.old) held.old.rows
+        space first count result (view_of pass.new) held.new.rows }
     ensures reached { ReachesCut levels space first count held.new.rows }
     ensures kept { (p : _) → ListHolds held.old.rows p → ListHolds held.new.rows p }
     ensures room { held.new.room ≡ held.old.room }
@@ -154,7 +160,7 @@ pub fn link_cut<P: Plan<Row = Cells>>(
 }
 
 /// How many levels the page tables of a table of rows have.
-pub(crate) fn table_levels<P: Plan>(iron: &Iron<P>) -> u8
+pub fn table_levels<P: Plan>(iron: &Iron<P>) -> u8
     ensures few { result < 6 }
     ensures levels { (layout_of iron.now).levels ≡ result }
 {
@@ -172,14 +178,19 @@ pub(crate) fn link_rows<P: Plan<Row = Cells>>(
     requires table { IsPassOf iron.now pass.old }
     requires blank { IsBlankIn P.meaning.is_blank }
     requires done { kit.now.done ≡ true }
-    requires ready { (a : BookData) × (b : BookData) × (thread : ℕ) × (c : AnyCall) × IsApplicable a b thread c (view_of pass.old) held.old.rows kit.now
-        × IsLinkable a b thread c (view_of pass.old) held.old.rows kit.now × AreAbove a b held.old.rows kit.now space }
+    requires ready { (a : BookData) × (b : BookData) × (thread : ℕ) × (c : AnyCall)
+        × IsApplicable a b thread c (view_of pass.old) held.old.rows kit.now
+        × IsLinkable a b thread c (view_of pass.old) held.old.rows kit.now
+        × AreAbove a b held.old.rows kit.now space }
     requires room { length held.old.rows + length kit.now.rows.items ≤ held.old.room }
     ensures table { table_of pass.new ≡ table_of pass.old }
     ensures same { kit_of pass.new ≡ kit_of pass.old }
-    ensures links { (a b : BookData) (thread : ℕ) (c : AnyCall) → IsApplicable a b thread c (view_of pass.old) held.old.rows kit.now
-        → IsLinkable a b thread c (view_of pass.old) held.old.rows kit.now → AreAbove a b held.old.rows kit.now space
-        → Staged a b thread c kit.now (view_of pass.old) (view_of pass.new) held.old.rows held.new.rows }
+    ensures links { (a b : BookData) (thread : ℕ) (c : AnyCall)
+        → IsApplicable a b thread c (view_of pass.old) held.old.rows kit.now
+        → IsLinkable a b thread c (view_of pass.old) held.old.rows kit.now
+        → AreAbove a b held.old.rows kit.now space
+        → Staged a b thread c kit.now (view_of pass.old) (view_of pass.new) held.old.rows
+        held.new.rows }
     ensures room { held.new.room ≡ held.old.room }
 {
     let levels = table_levels(iron);
@@ -210,14 +221,17 @@ pub fn link_access<P: Plan<Row = Cells>>(
     requires table { IsPassOf iron.now pass.old }
     requires blank { IsBlankIn P.meaning.is_blank }
     requires done { kit.now.done ≡ true }
-    requires ready { (a : BookData) × (b : BookData) × (thread : ℕ) × (c : AnyCall) × IsApplicable a b thread c (view_of pass.old) held.old.rows kit.now
+    requires ready { (a : BookData) × (b : BookData) × (thread : ℕ) × (c : AnyCall)
+        × IsApplicable a b thread c (view_of pass.old) held.old.rows kit.now
         × IsLinkable a b thread c (view_of pass.old) held.old.rows kit.now × IsAccessIn space c }
     requires room { length held.old.rows + length kit.now.rows.items ≤ held.old.room }
     ensures table { table_of pass.new ≡ table_of pass.old }
     ensures same { kit_of pass.new ≡ kit_of pass.old }
-    ensures links { (a b : BookData) (thread : ℕ) (c : AnyCall) → IsApplicable a b thread c (view_of pass.old) held.old.rows kit.now
+    ensures links { (a b : BookData) (thread : ℕ) (c : AnyCall)
+        → IsApplicable a b thread c (view_of pass.old) held.old.rows kit.now
         → IsLinkable a b thread c (view_of pass.old) held.old.rows kit.now → IsAccessIn space c
-        → Staged a b thread c kit.now (view_of pass.old) (view_of pass.new) held.old.rows held.new.rows }
+        → Staged a b thread c kit.now (view_of pass.old) (view_of pass.new) held.old.rows
+        held.new.rows }
     ensures room { held.new.room ≡ held.old.room }
 {
     link_rows(pass, iron, held, kit, space);
@@ -234,14 +248,19 @@ pub fn link_root<P: Plan<Row = Cells>>(
     requires table { IsPassOf iron.now pass.old }
     requires blank { IsBlankIn P.meaning.is_blank }
     requires done { kit.now.done ≡ true }
-    requires ready { (a : BookData) × (b : BookData) × (thread : ℕ) × (c : AnyCall) × IsApplicable a b thread c (view_of pass.old) held.old.rows kit.now
-        × IsLinkable a b thread c (view_of pass.old) held.old.rows kit.now × MakesSpace a c held.old.rows space }
+    requires ready { (a : BookData) × (b : BookData) × (thread : ℕ) × (c : AnyCall)
+        × IsApplicable a b thread c (view_of pass.old) held.old.rows kit.now
+        × IsLinkable a b thread c (view_of pass.old) held.old.rows kit.now
+        × MakesSpace a c held.old.rows space }
     requires room { length held.old.rows + length kit.now.rows.items ≤ held.old.room }
     ensures table { table_of pass.new ≡ table_of pass.old }
     ensures same { kit_of pass.new ≡ kit_of pass.old }
-    ensures links { (a b : BookData) (thread : ℕ) (c : AnyCall) → IsApplicable a b thread c (view_of pass.old) held.old.rows kit.now
-        → IsLinkable a b thread c (view_of pass.old) held.old.rows kit.now → MakesSpace a c held.old.rows space
-        → Staged a b thread c kit.now (view_of pass.old) (view_of pass.new) held.old.rows held.new.rows }
+    ensures links { (a b : BookData) (thread : ℕ) (c : AnyCall)
+        → IsApplicable a b thread c (view_of pass.old) held.old.rows kit.now
+        → IsLinkable a b thread c (view_of pass.old) held.old.rows kit.now
+        → MakesSpace a c held.old.rows space
+        → Staged a b thread c kit.now (view_of pass.old) (view_of pass.new) held.old.rows
+        held.new.rows }
     ensures room { held.new.room ≡ held.old.room }
 {
     let levels = table_levels(iron);

@@ -45,7 +45,8 @@ pub fn apply_transaction<P: Plan<Row = Cells>>(
     ensures applies { (a b : BookData) (thread : ℕ) (c : AnyCall)
         → IsApplicable a b thread c (view_of pass.old) held.old.rows kit.old
         → IsLinkable a b thread c (view_of pass.old) held.old.rows kit.old → IsTxnIn space c
-        → Applied b thread c (view_of pass.new) held.new.rows kit.old kit.new }
+        → Applied b thread c (view_of pass.old) (view_of pass.new) held.new.rows
+        kit.old kit.new }
     ensures room { held.new.room ≡ held.old.room }
 {
     link_transaction(pass, iron, held, kit, space);

@@ -49,7 +49,7 @@ returns-clause-applies g c = λ a b thread call linked move same.
     let shown = subst (λ (l : Refs). Shows (pages_of l) (λ (b : BookData) (space : ℕ). AreSole (state_of b) space l) v v1 rows) c.as_slice-frames.ensures.value c.show_frames.ensures.shown in
     let own = subst (λ (l : Refs). Shows (own_pages c.args.writes l) (λ (b : BookData) (space : ℕ). c.args.writes ≡ true → AreSole (state_of b) space l) v1 v2 rows) c.as_slice-own_frames.ensures.value c.show_written.ensures.shown in
     let hidden = subst (λ (l : Refs). Hides (pages_of l) (λ (b : BookData) (space : ℕ). AreSlots (state_of b) space l) v2 w rows) c.as_slice-slots.ensures.value c.hide_pages.ensures.hidden in
-    is_applied a b thread call v rows c.args.kit.now linked move c.args.writes same v1 shown v2 own w hidden c.has_rows_once.ensures c.put_granted.new.held.rows c.settle.new.kit
+    is_applied a b thread call v rows c.args.kit.now linked move c.args.writes same v1 shown v2 own w hidden c.show_frames.ensures.words c.show_written.ensures.words c.hide_pages.ensures.words c.has_rows_once.ensures c.put_granted.new.held.rows c.settle.new.kit
     (c.put_granted.ensures.back b _ w.rows) c.put_granted.ensures.rows (c.settle.ensures.places (c.put_granted.ensures.places linked.room)) c.settle.ensures.idle c.settle.ensures.ungranted c.settle.ensures.seconds
 
 pub returns-clause-alone : goal.returns-clause-alone

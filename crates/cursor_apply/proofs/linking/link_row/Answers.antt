@@ -14,7 +14,7 @@ use Rattle.cursor_apply.proofs.LinkedOne.{up_is, content_is, mark_is, mark_fits,
 use Rattle.cursor_apply.proofs.linking.link_row.Goals as goal
 
 pub spread-requires-clause-pages : goal.spread-requires-clause-pages
-spread-requires-clause-pages g c = let some = span_pos (c.args.place.level - 1) in let is = c.entry_pages.ensures in omega arith
+spread-requires-clause-pages g c = let some = span_pos (c.args.place.level - 1) in let is = c.entry_pages.ensures.value in omega arith
 
 pub spread-requires-clause-fits : goal.spread-requires-clause-fits
 spread-requires-clause-fits g c =
@@ -25,7 +25,7 @@ spread-requires-clause-fits g c =
     let v = view_of c.args.pass.now in
     let content = content_is c.args.levels c.args.row c.args.generation c.args.place rows v c.requires.may c.requires.levels c.rows-rows.ensures.order c.row_at-at.result at c.content_mut.result.now c.content_mut.ensures.content in
     let m = mark_is c.args.levels c.args.row c.args.generation c.args.place rows v c.requires.may c.requires.levels c.rows-rows.ensures.order c.row_at-at.result at c.content_mut.result.now c.linker_of-above.result.index c.replace-mark.result content c.linker_of-above.ensures.index c.replace-mark.ensures.before in
-    mark_fits c.args.levels c.args.row c.args.generation c.args.place rows v c.requires.may c.requires.levels c.rows-rows.ensures.order c.row_at-at.result at c.replace-mark.result c.entry_pages.result m.1 c.entry_pages.ensures
+    mark_fits c.args.levels c.args.row c.args.generation c.args.place rows v c.requires.may c.requires.levels c.rows-rows.ensures.order c.row_at-at.result at c.replace-mark.result c.entry_pages.result m.1 c.entry_pages.ensures.value
 
 pub insert-requires-clause-room : goal.insert-requires-clause-room
 insert-requires-clause-room g c = let long = with_length c.args.held.now.rows c.row_at-at.result c.replace-mark.new.self in let room = c.requires.room in omega arith
@@ -79,7 +79,7 @@ returns-clause-links g c =
       mark = c.replace-mark.result;
       marked = m.0;
       content = c.spread.new.cells;
-      spread = subst (λ n. IsSpread c.replace-mark.result n c.spread.new.cells) c.entry_pages.ensures c.spread.ensures;
+      spread = subst (λ n. IsSpread c.replace-mark.result n c.spread.new.cells) c.entry_pages.ensures.value c.spread.ensures;
       inserted = subst (λ (l : List Cell). IsInserted (new_row c.args.row c.args.place c.args.generation c.spread.new.cells) (with_content rows c.row_at-at.result l) c.insert.new.self.rows) now c.insert.ensures.inserted;
       view = λ linker held linker_row.
           has_linked c.args.levels c.args.row c.args.generation c.args.place rows v c.requires.may c.requires.levels (view_of c.open_row-content.new.self)

@@ -3,6 +3,7 @@ use Rattle.std.proofs.Common.{◌∙◌}
 use Rattle.row_table.specs.Passes.{view_of}
 use Rattle.machine_plan.specs.Books.{state_of}
 use Rattle.cursor_apply.specs.Putting.{pages_of}
+use Rattle.cursor_apply.proofs.Kept.{words_more}
 use Rattle.cursor_apply.proofs.SharedRows.{next_shared, frame_here, all_shared}
 use Rattle.cursor_apply.proofs.sharing.share_leaves.Goals as goal
 
@@ -27,6 +28,7 @@ loop-page-preserved g c =
     record {
       table = c.share_leaf.ensures.table ∙ c.loop-page.invariant.table;
       same = c.share_leaf.ensures.same ∙ c.loop-page.invariant.same;
+      words = words_more (view_of c.args.pass.now) (view_of c.loop-page.pass) (view_of c.share_leaf.new.pass) c.loop-page.invariant.words c.share_leaf.ensures.words;
       so_far = λ b to_share beside ready each.
           c.share_leaf.ensures.shared b (pages_of (drop (i + 1) refs) ++ to_share) beside
           (next_shared refs i r c.loop-page-item.is c.loop-page-test.true b c.args.space to_share beside (view_of c.loop-page.pass) c.args.held.now.rows (c.loop-page.invariant.so_far b to_share beside ready each))

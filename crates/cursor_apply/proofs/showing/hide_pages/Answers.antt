@@ -3,6 +3,7 @@ use Rattle.std.proofs.Common.{◌∙◌}
 use Rattle.row_table.specs.Passes.{view_of}
 use Rattle.machine_plan.specs.Books.{state_of}
 use Rattle.cursor_apply.specs.Putting.{pages_of}
+use Rattle.cursor_apply.proofs.Kept.{words_more}
 use Rattle.cursor_apply.proofs.ShownPages.{next_hidden, slot_here, all_hidden}
 use Rattle.cursor_apply.proofs.showing.hide_pages.Goals as goal
 
@@ -32,6 +33,7 @@ loop-page-preserved g c =
     record {
       table = c.hide_page.ensures.table ∙ c.loop-page.invariant.table;
       same = c.hide_page.ensures.same ∙ c.loop-page.invariant.same;
+      words = words_more (view_of c.args.pass.now) (view_of c.loop-page.pass) (view_of c.hide_page.new.pass) c.loop-page.invariant.words c.hide_page.ensures.words;
       so_far = λ b thread k space frames slots to_show to_hide ready in_swap.
           c.hide_page.ensures.hidden b thread k space frames slots to_show (pages_of (drop (i + 1) refs) ++ to_hide)
           (next_hidden refs i r c.loop-page-item.is c.loop-page-test.true b thread k space frames slots to_hide to_show (view_of c.loop-page.pass) c.args.held.now.rows

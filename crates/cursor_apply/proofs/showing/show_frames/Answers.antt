@@ -3,6 +3,7 @@ use Rattle.std.proofs.Common.{◌∙◌}
 use Rattle.row_table.specs.Passes.{view_of}
 use Rattle.machine_plan.specs.Books.{state_of}
 use Rattle.cursor_apply.specs.Putting.{pages_of}
+use Rattle.cursor_apply.proofs.Kept.{words_more}
 use Rattle.cursor_apply.proofs.ShownPages.{next_shown, sole_here, all_shown}
 use Rattle.cursor_apply.proofs.showing.show_frames.Goals as goal
 
@@ -32,6 +33,7 @@ loop-page-preserved g c =
     record {
       table = c.show_frame.ensures.table ∙ c.loop-page.invariant.table;
       same = c.show_frame.ensures.same ∙ c.loop-page.invariant.same;
+      words = words_more (view_of c.args.pass.now) (view_of c.loop-page.pass) (view_of c.show_frame.new.pass) c.loop-page.invariant.words c.show_frame.ensures.words;
       so_far = λ b thread k space frames slots to_show to_hide ready sole.
           c.show_frame.ensures.shown b thread k space frames slots (pages_of (drop (i + 1) refs) ++ to_show) to_hide
           (next_shown refs i r c.loop-page-item.is c.loop-page-test.true b thread k space frames slots to_show to_hide (view_of c.loop-page.pass) c.args.held.now.rows

@@ -1,7 +1,0 @@
-use Rattle.std.proofs.Common.{ℕ, ◌<◌}
-use Rattle.cursor_apply.specs.Copying.{FilledAt}
-use Rattle.cursor_apply.proofs.copying.first_filled.Given as goal
-
--- none of the cells that were seen is such
-abbrev pub invariant-loop-index : goal.invariant-loop-index
-invariant-loop-index l = (i : ℕ) → i < l.index → FilledAt l.cells i → ⊥
