@@ -1,0 +1,9 @@
+pub mod KeptRows
+pub mod SpacesLeft
+pub mod CopyLinks
+pub mod CopyTables
+pub mod MarkedRows
+pub mod ForkLists
+pub mod ForkCells
+pub mod ForkRows
+pub mod ForkEnd
