@@ -1,0 +1,15 @@
+pub mod InPlace
+pub mod Shrunk
+pub mod Filled
+pub mod Asked
+pub mod Grown
+pub mod PiecesMade
+pub mod Stayed
+pub mod RemapCuts
+pub mod RemapLinks
+pub mod RemapStaged
+pub mod MoveBase
+pub mod MoveCells
+pub mod MoveEnd
+pub mod MoveSteps
+pub mod Rejoined
