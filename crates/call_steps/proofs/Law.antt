@@ -47,7 +47,7 @@ gives_links m b thread c v d e w rows rows' kit kit' old g generation given none
     may_link m b thread c v d e w rows rows' kit kit' old g generation given.ready given.detached none shows once once' given.keeps given.after table_rows no_hand no_granted unlinked few same low there first last all
 
 pub gives_release : GivesRelease
-gives_release b g thread c w rows kit kit' made applied last = may_release_all b g thread c w rows kit kit' made applied last
+gives_release b g thread c w x rows kit kit' made applied last = may_release_all b g thread c w x rows kit kit' made applied last
 
 pub gives_sum : GivesSum
 gives_sum m b thread c kit kit' r is sum filled commits none g gone same many = sum_accepted m b thread c kit kit' r is sum filled commits none g gone same many

@@ -1,4 +1,4 @@
--- How the contracts of the steps of a call join, for every call but a copy. The pass knew `v0` when it had its cover, `v` with the book, `d` after the detach, `e` with samples, and `w` after the give. The book `old` was found, `m` is it after a sweep or none, `b` the book after the commit, and `g` the one that was given.
+-- How the contracts of the steps of a call join, for every call but a copy. The pass knew `v0` when it had its cover, `v` with the book, `d` after the detach, `e` with samples, `w` after the give, and `x` after the apply. The book `old` was found, `m` is it after a sweep or none, `b` the book after the commit, and `g` the one that was given.
 --     GivesPlan      the turn gives what a plan asks
 --     GivesDetach      a plan and a commit give what a detach asks
 --     IsGiven      a detach and a give
@@ -87,7 +87,7 @@ GivesLinks = (m b : BookData) (thread : ℕ) (c : Call) (v d e w : View) (rows r
     → old.next_generation ≡ m.next_generation → g.next_generation ≡ b.next_generation → length kit'.rows.items ≡ need (wanted_tables (state_of m) thread c) (state_of m).tables → IsLinkable m b thread c w rows' kit'
 
 abbrev pub GivesRelease : Type 0
-GivesRelease = (b g : BookData) (thread : ℕ) (c : Call) (w : View) (rows : List Row) (kit kit' : Kit) → IsMadeOf g b → Applied b thread c w rows kit kit' → w.last ≡ Some g → MayReleaseAll machine rows w × HoldsExactly rows w.core.held w.rows
+GivesRelease = (b g : BookData) (thread : ℕ) (c : Call) (w x : View) (rows : List Row) (kit kit' : Kit) → IsMadeOf g b → Applied b thread c w x rows kit kit' → w.last ≡ Some g → MayReleaseAll machine rows x × HoldsExactly rows x.core.held x.rows
 
 abbrev pub GivesSum : Type 0
 GivesSum = (m b : BookData) (thread : ℕ) (c : Call) (kit kit' : Kit) (r : Reply) → IsBook m → RowSum m → IsFilled m thread c kit → Commits m thread c kit r b kit' → refusal (state_of m) thread c (length m.limbo) ≡ None
