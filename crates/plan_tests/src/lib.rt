@@ -1,6 +1,8 @@
 //! Tests of the plans of calls over held rows.
 #![tactic(auto)]
 
+#[cfg(test)]
+mod ranges;
 mod references;
 #[cfg(test)]
 mod transactions;
