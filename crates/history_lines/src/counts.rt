@@ -74,7 +74,7 @@ fn next_named(words: &mut Words<'_>, name: &[u8]) -> Option<u32>
 }
 
 /// The three numbers of a line, each behind its word.
-pub(crate) fn counts_of(line: &[u8], first: &[u8], second: &[u8], third: &[u8]) -> Option<Counts>
+pub fn counts_of(line: &[u8], first: &[u8], second: &[u8], third: &[u8]) -> Option<Counts>
     ensures found { IfSome result (λ counts. AreCounts counts × (words_of line.now ≡ counts_words first.now second.now third.now counts)) }
     ensures none { IfNone result ((counts : Counts) → AreCounts counts → words_of line.now ≢ counts_words first.now second.now third.now counts) }
 {

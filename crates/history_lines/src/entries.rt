@@ -95,11 +95,7 @@ fn since(call: &Call) -> u8
 }
 
 /// The answered call whose line this is, where the version has it.
-pub(crate) fn read_entry_of(
-    alloc: Global,
-    version: u8,
-    line: &[u8],
-) -> Result<Option<Entry>, AllocError>
+pub fn read_entry_of(alloc: Global, version: u8, line: &[u8]) -> Result<Option<Entry>, AllocError>
     ensures found { IfOk result (λ read. IfSome read (λ entry. IsEntryOf version entry × (line.now ≡ entry_line entry))) }
     ensures none { IfOk result (λ read. IfNone read ((entry : Entry) → IsEntryOf version entry → line.now ≢ entry_line entry)) }
 {

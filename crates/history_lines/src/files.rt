@@ -42,7 +42,7 @@ pub fn copy_of(alloc: Global, shelf: &Shelf) -> Result<Shelf, AllocError>
 }
 
 /// Puts the file of a line onto the shelf, where the line is a file's, no entry stands before it, and there is room.
-pub(crate) fn take_file(
+pub fn take_file(
     alloc: Global,
     line: &[u8],
     entries: &[Entry],

@@ -14,13 +14,14 @@ use text_words::Lines;
 
 /// The version of a text, and the limits of its machine.
 #[derive(Clone, Copy)]
-pub(crate) struct Header {
-    pub(crate) version: u8,
-    pub(crate) limits: Limits,
+pub struct Header {
+    /// 1 or 2.
+    pub version: u8,
+    pub limits: Limits,
 }
 
 /// Takes the lines of the version, of the limits and of the levels.
-pub(crate) fn read_header(lines: &mut Lines<'_>) -> Result<Header, ScriptFault>
+pub fn read_header(lines: &mut Lines<'_>) -> Result<Header, ScriptFault>
     ensures ok { IfOk result (λ head. IsHeader head × Passes lines.old lines.new (head_lines head)
         × HasNoLevels head.version head.limits.levels lines.new.bytes) }
     ensures bad { IfErr result (λ fault. IfBad fault (FaultFrom AreHistoryLines lines.old [])) }

@@ -20,15 +20,16 @@ mod verdict;
 mod writer;
 
 pub use accounts::{frames_counts, push_header, swap_counts};
-pub use counts::Counts;
-pub use entries::{print_entry, read_entry};
-pub use files::copy_of;
+pub use counts::{Counts, counts_of};
+pub use entries::{print_entry, read_entry, read_entry_of};
+pub use files::{copy_of, take_file};
+pub use header::{Header, read_header};
 pub use history::History;
 pub use laws::{
     a_history_has_one_verdict, a_line_has_one_entry, a_text_has_one_first_fault,
     a_text_has_one_history, a_wrong_reply_or_account_is_the_first_wrong_line,
     printing_and_reading_are_inverse, words_begin_with_one_entry,
 };
-pub use reading::read_history;
+pub use reading::{Ends, accounts_of, read_ends, read_history};
 pub use verdict::Verdict;
 pub use writer::{Written, write_accounts, write_entry, write_history};

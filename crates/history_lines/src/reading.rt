@@ -20,13 +20,13 @@ use text_words::Lines;
 
 /// The numbers of the last two lines.
 #[derive(Clone, Copy)]
-struct Ends {
-    swap: Counts,
-    tables: Counts,
+pub struct Ends {
+    pub swap: Counts,
+    pub tables: Counts,
 }
 
 /// Takes the last two lines, behind which nothing is left.
-fn read_ends(lines: &mut Lines<'_>) -> Result<Ends, ScriptFault>
+pub fn read_ends(lines: &mut Lines<'_>) -> Result<Ends, ScriptFault>
     ensures ok { IfOk result (λ ends. AreCounts ends.swap × AreCounts ends.tables
         × Passes lines.old lines.new (swap_line ends.swap ∷ tables_line ends.tables ∷ []) × (lines.new.bytes ≡ [])) }
     ensures bad { IfErr result (λ fault. IfBad fault (λ n. (head : Header) (files : List (List ℕ)) (entries : List Entry) (frames : Counts) →
@@ -43,7 +43,7 @@ fn read_ends(lines: &mut Lines<'_>) -> Result<Ends, ScriptFault>
 }
 
 /// The accounts of three lines.
-fn accounts_of(frames: Counts, swap: Counts, tables: Counts) -> Accounts
+pub fn accounts_of(frames: Counts, swap: Counts, tables: Counts) -> Accounts
     ensures frames { frames_counts result ≡ frames }
     ensures swap { swap_counts result ≡ swap }
     ensures tables { tables_counts result ≡ tables }

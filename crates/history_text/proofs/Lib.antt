@@ -2,3 +2,4 @@ pub mod Amounts
 pub mod ByteCells
 pub mod Reached
 pub mod Spelled
+pub mod Tried

@@ -27,7 +27,7 @@ fn limbo_of(reply: &Reply) -> u32
 }
 
 /// Whether a reply is what the machine answers.
-fn is_right(alloc: Global, plain: &mut Plain, entry: &Entry) -> Result<bool, AllocError>
+pub(crate) fn is_right(alloc: Global, plain: &mut Plain, entry: &Entry) -> Result<bool, AllocError>
     requires { IsEntry entry.now }
     ensures right { IfOk result (λ right. IsTrue right ↔ IsRight plain.old entry.now) }
     ensures after { IfOk result (λ right.
@@ -78,10 +78,11 @@ fn are_same(left: Counts, right: Counts) -> bool
 }
 
 /// How many account lines stand before the first that is not right.
-fn first_wrong_account(plain: &Plain, accounts: &Accounts) -> Option<u64>
+pub(crate) fn first_wrong_account(plain: &Plain, accounts: &Accounts) -> Option<u64>
     requires { linked plain.now ≤ plain.now.limits.tables }
     ensures right { IfNone result (AreRight plain.now accounts.now) }
     ensures wrong { IfSome result (WrongAccount plain.now accounts.now) }
+    ensures small { IfSome result (λ place. place ≤ 2) }
 {
     let own = plain.accounts(0);
     if !are_same(frames_counts(accounts), frames_counts(&own)) {

@@ -3,6 +3,7 @@
 
 mod checking;
 mod laws;
+mod streaming;
 
 pub use checking::{check, replay};
 pub use history_lines::{
@@ -13,3 +14,4 @@ pub use history_lines::{
     words_begin_with_one_entry, write_accounts, write_entry, write_history,
 };
 pub use laws::a_legal_history_has_a_text;
+pub use streaming::check_text;
