@@ -18,7 +18,7 @@ use crate::script_run::write_solo;
 use crate::victims::find_victims;
 use byte_streams::write_whole;
 use corten_base::{Sink, SpaceId};
-use history_text::{Verdict, Written, check, read_history, write_history};
+use history_text::{Verdict, Written, check_text, read_history, write_history};
 use image_text::read_image;
 use mm_script::{ScriptFault, read_script};
 use space_image::restore;
@@ -123,13 +123,10 @@ fn answer_history<K: Sink>(alloc: Global, bytes: &[u8], sink: &mut K) -> Ending
     ensures write_fault { result ≡ Ending.WriteFailed
         → Rises (K.faults sink.old) (K.faults sink.new) }
 {
-    let history = match read_history(alloc, bytes) {
-        Ok(history) => history,
+    let verdict = match check_text(alloc, bytes) {
+        Ok(verdict) => verdict,
         Err(ScriptFault::Bad(line)) => return refuse(alloc, line, sink),
         Err(ScriptFault::NoMemory) => return Ending::NoMemory,
-    };
-    let Ok(verdict) = check(alloc, &history) else {
-        return Ending::NoMemory;
     };
     match write_verdict(alloc, verdict, sink) {
         Written::Whole => ending_of(verdict),
