@@ -10,3 +10,10 @@ pub mod Short
 pub mod Showing
 pub mod Entered
 pub mod Law
+pub mod Waited
+pub mod Prepared
+pub mod Committing
+pub mod Gave
+pub mod NoPlace
+pub mod Ended
+pub mod Chained

@@ -2,3 +2,8 @@ pub mod Ready
 pub mod Steps
 pub mod Swept
 pub mod Joints
+pub mod Turned
+pub mod Planned
+pub mod Given
+pub mod Finished
+pub mod Transacting
