@@ -4,7 +4,6 @@ use Rattle.std.specs.Prelude.{◌↔◌, Some}
 use Rattle.std.specs.List.{All, Contains}
 use Rattle.std.proofs.lemmas.List.Elements.{All-head}
 use Rattle.std.proofs.lemmas.Option.{same_Some}
-use Rattle.page_map.specs.History.{IsHistory}
 use Rattle.page_map.specs.State.{IsWithinLimits}
 use Rattle.corten_base.specs.declared.numbers.Limits.{Limits}
 use Rattle.walk_core.specs.Lists.{times}
@@ -18,6 +17,7 @@ use Rattle.row_table.specs.Close.{HasAll, IsClosed, IsGoodEnd}
 use Rattle.epoch_grace.proofs.Stocked.{rows_put}
 use Rattle.machine_plan.specs.Books.{BookData, RowSum}
 use Rattle.machine_plan.specs.Follows.{machine, IsFixed}
+use Rattle.machine_plan.specs.Whole.{IsBook}
 use Rattle.book_sweep.specs.Freeing.{AreOnce, FreesLimbo}
 use Rattle.mm_txn.specs.declared.closed.Closed.{Closed}
 use Rattle.mm_txn.specs.declared.closed.CloseAnswer.{CloseAnswer}
@@ -48,9 +48,9 @@ module _ (t : TableModel BookData) (views : Views) (words epochs : List ℕ) (ro
     sum = (λ s. sums.0 (fixed.sum.0 s), λ s. fixed.sum.1 (sums.1 s));
   }
 
-  pub ends : IsHistory new.limits new.files new.journal → (first : BookData) → RowSum first → (v : PassView (List Cell) BookData Entry) → Contains views v → v.origin ≡ Some first → Ends t views new epochs
-  ends legal first sum v there at = record {
-    legal = legal;
+  pub ends : IsBook new → (first : BookData) → RowSum first → (v : PassView (List Cell) BookData Entry) → Contains views v → v.origin ≡ Some first → Ends t views new epochs
+  ends is_book first sum v there at = record {
+    is_book = is_book;
     limbo = ap (λ (b : BookData). b.limbo) frees.same;
     sum = sums.0 (((closed.knows v there).1.fixed first at).sum.0 sum);
     all_epochs = closed.all_epochs;
@@ -76,11 +76,11 @@ member t [] some all members = absurd (omega (arith, all 0 (omega (arith, some))
 member t (p ∷ ps) some all members = (p, in_head p ps, All-head (λ p. table_of p ≡ t) p ps members)
 
 pub closed_ends : (t : MachineIron) (ps : List MachinePass) (words epochs : List ℕ) (rows : List (List Cell)) (old new : BookData) → 1 ≤ (iron_model t).table.layout.passes → All (λ p. table_of p ≡ (iron_model t).table) ps
-    → HasAll (iron_model t).table.layout.passes (map (λ p. number_of p) ps) → IsClosed machine (iron_model t).table.layout (map (λ p. view_of p) ps) words epochs rows old → FreesLimbo old new → RowSum old ↔ RowSum new → IsHistory new.limits new.files new.journal
+    → HasAll (iron_model t).table.layout.passes (map (λ p. number_of p) ps) → IsClosed machine (iron_model t).table.layout (map (λ p. view_of p) ps) words epochs rows old → FreesLimbo old new → RowSum old ↔ RowSum new → IsBook new
     → ((b : BookData) → (iron_model t).table.origin ≡ Some b → RowSum b) → Ends (iron_model t).table (map (λ p. view_of p) ps) new epochs
-closed_ends t ps words epochs rows old new some members all closed frees sums legal sum =
+closed_ends t ps words epochs rows old new some members all closed frees sums is_book sum =
     let first = has_origin t in let one = member (iron_model t).table ps some all members in
-    ends (iron_model t).table (map (λ p. view_of p) ps) words epochs rows old new closed frees sums legal first.0 (sum first.0 first.1) (view_of one.0) (in_map (λ p. view_of p) ps one.0 one.1)
+    ends (iron_model t).table (map (λ p. view_of p) ps) words epochs rows old new closed frees sums is_book first.0 (sum first.0 first.1) (view_of one.0) (in_map (λ p. view_of p) ps one.0 one.1)
     (origin_known one.0 ∙ (ap (λ (k : TableModel BookData). k.origin) one.2 ∙ first.1))
 
 -- Answers

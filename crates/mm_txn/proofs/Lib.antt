@@ -3,3 +3,4 @@ pub mod Ending
 pub mod Opening
 pub mod Leaving
 pub mod Telling
+pub mod Committed

@@ -9,9 +9,9 @@ use Rattle.row_cells.specs.declared.Cell.{Cell}
 use Rattle.row_table.specs.declared.view.PassView.{PassView}
 use Rattle.row_table.specs.Close.{KnownAtEnd}
 use Rattle.row_table.specs.Passes.{TableModel}
-use Rattle.page_map.specs.History.{IsHistory}
 use Rattle.machine_plan.specs.Books.{BookData, RowSum}
 use Rattle.machine_plan.specs.Follows.{machine}
+use Rattle.machine_plan.specs.Whole.{IsBook}
 use Rattle.mm_txn.specs.declared.closed.Closed.{Closed}
 use Rattle.mm_txn.specs.Machines.{MachineModel}
 
@@ -26,9 +26,9 @@ closed_model c = record { book = c.book; epochs = c.epochs.items; name = c.name 
 abbrev pub Views : Type 0
 Views = List (PassView (List Cell) BookData Entry)
 
--- The journal is one legal history, and each pass knew a beginning of it and its own entries in it. The rows add up, and none is in limbo.
+-- The journal is one legal history of the passes, and each pass knew a beginning of it and its own entries in it. The rows add up, and none is in limbo.
 pub record Ends (t : TableModel BookData) (views : Views) (book : BookData) (epochs : List ℕ) : Type 0 where
-  pub legal : IsHistory book.limits book.files book.journal
+  pub is_book : IsBook book
   pub limbo : book.limbo ≡ []
   pub sum : RowSum book
   pub all_epochs : length epochs ≡ t.layout.passes

@@ -5,3 +5,4 @@ pub mod Fit
 pub mod Txns
 pub mod Beginning
 pub mod Looking
+pub mod Committing

@@ -3,6 +3,7 @@ ghost use Rattle.std.specs.Prelude.{◌≡◌, ◌≤◌, ◌+◌, length, map, 
 ghost use Rattle.row_table.specs.Passes.{iron_model};
 ghost use Rattle.page_map.specs.State.{IsWithinLimits};
 ghost use Rattle.mm_txn.specs.Starting.{AreFirstRows};
+ghost use Rattle.mm_txn.specs.Fit.{IsFit};
 ghost use Rattle.mm_txn.specs.Machines.{model_of, IsTable, IsMade, IsStarted};
 
 use crate::kits::empty_kits;
@@ -82,9 +83,10 @@ impl Machine {
         &self.iron
     }
 
-    /// How many files are on the shelf.
+    /// How many files are on the shelf, which is that of the passes' beginning.
     pub fn files(&self) -> u8
-        ensures { result ≡ (model_of self.now).files }
+        ensures files { result ≡ (model_of self.now).files }
+        ensures fit { IsFit (model_of self.now).table (model_of self.now).greatest (model_of self.now).files }
     {
         self.files
     }

@@ -10,6 +10,7 @@ ghost use Rattle.mm_txn.specs.Ending.{closed_model, ClosesInto};
 
 use crate::closed::{CloseAnswer, Closed};
 use crate::machine::{Machine, Pass};
+use book::the_counts_of_a_book_are_those_of_its_state;
 use book_sweep::free_limbo;
 use corten_base::{Accounts, Entry};
 use row_table::{IronClose, Parts};
@@ -66,6 +67,7 @@ impl Machine {
                     mut book,
                 } = parts;
                 free_limbo(&mut book);
+                the_counts_of_a_book_are_those_of_its_state(&book);
                 CloseAnswer::Closed(Closed { book, epochs, name })
             }
             IronClose::NotAll(iron, passes) => CloseAnswer::NotAll(

@@ -5,6 +5,7 @@ mod beginning;
 mod booting;
 mod closed;
 mod closing;
+mod committing;
 mod kits;
 mod machine;
 mod rows;
@@ -16,5 +17,6 @@ mod txn;
 
 pub use beginning::{begin, try_begin};
 pub use closed::{CloseAnswer, Closed};
+pub use committing::{Finished, Stopped};
 pub use machine::{Machine, Pass};
 pub use txn::{BeginAnswer, Begun, Txn};

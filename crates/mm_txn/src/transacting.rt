@@ -20,11 +20,17 @@ impl<'m> Txn<'m> {
     {
         let Txn {
             machine,
-            mut pass,
-            mut kit,
+            pass,
+            kit,
+            space,
             range,
-            ..
+            at,
+            len,
+            ops,
         } = self;
+        let mut pass = pass;
+        let mut kit = kit;
+        let _ = (space, at, len, ops);
         let Some(_) = range else {
             pass.put_kit(kit);
             return pass;

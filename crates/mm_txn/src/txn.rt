@@ -5,8 +5,7 @@ use machine_plan::Kit;
 use row_cells::Cells;
 use tree_lock::Held;
 
-/// The rows that cover a range, held until its operations are committed or it is abandoned.
-#[derive(Drop)]
+/// The rows that cover a range, held until its operations are committed or it is abandoned. It can't be let go otherwise.
 pub struct Txn<'m> {
     pub(crate) machine: &'m Machine,
     pub(crate) pass: Pass,
@@ -21,7 +20,6 @@ pub struct Txn<'m> {
 }
 
 /// What a beginning that waits for other passes answers.
-#[derive(Drop)]
 pub enum BeginAnswer<'m> {
     /// The rows are held.
     Ready(Txn<'m>),
@@ -30,13 +28,12 @@ pub enum BeginAnswer<'m> {
 }
 
 /// What a beginning that waits for nobody answers.
-#[derive(Drop)]
 pub enum Begun<'m> {
     /// The rows are held.
     Ready(Txn<'m>),
-    /// This row is held by the pass of this number.
+    /// This row was found held by the pass of this number.
     Busy(Pass, u32, u8),
-    /// Nobody may take this row any more.
+    /// This row was found to be one that nobody may take any more.
     Stale(Pass, u32),
     /// The pass has entered as often as its epoch word can count.
     Worn(Pass),

@@ -18,14 +18,14 @@ pub invariant_of-result : goal.invariant_of-result
 unfolding model_of iron_model
 invariant_of-result c =
     let o = c.close.ensures.closed c.in-Closed.parts c.in-Closed.is in
-    let e = closed_ends c.args.self.iron c.args.passes.items _ _ _ _ c.free_limbo.new.book (omega (arith, c.args.self.iron.sizes.2)) c.requires.members o.0 o.1 c.free_limbo.ensures.frees c.free_limbo.ensures.sum c.free_limbo.ensures.legal c.args.self.fit.sum in
+    let e = closed_ends c.args.self.iron c.args.passes.items _ _ _ _ c.free_limbo.new.book (omega (arith, c.args.self.iron.sizes.2)) c.requires.members o.0 o.1 c.free_limbo.ensures.frees c.free_limbo.ensures.sum c.the_counts_of_a_book_are_those_of_its_state.ensures c.args.self.fit.sum in
     record { sum = e.sum; limbo = e.limbo }
 
 pub returns-in-Closed-clause-closed : goal.returns-in-Closed-clause-closed
 unfolding model_of iron_model closed_model
 returns-in-Closed-clause-closed c d same =
     let o = c.close.ensures.closed c.in-Closed.parts c.in-Closed.is in
-    let e = closed_ends c.args.self.iron c.args.passes.items _ _ _ _ c.free_limbo.new.book (omega (arith, c.args.self.iron.sizes.2)) c.requires.members o.0 o.1 c.free_limbo.ensures.frees c.free_limbo.ensures.sum c.free_limbo.ensures.legal c.args.self.fit.sum in
+    let e = closed_ends c.args.self.iron c.args.passes.items _ _ _ _ c.free_limbo.new.book (omega (arith, c.args.self.iron.sizes.2)) c.requires.members o.0 o.1 c.free_limbo.ensures.frees c.free_limbo.ensures.sum c.the_counts_of_a_book_are_those_of_its_state.ensures c.args.self.fit.sum in
     (o.0, subst (λ (x : Closed). ClosesInto (model_of c.args.self) (map (λ p. view_of p) c.args.passes.items) x) (same_closed _ d same) (refl, e))
 
 pub returns-in-NotAll-clause-not_all : goal.returns-in-NotAll-clause-not_all
